@@ -1,0 +1,224 @@
+-- What a call that is not refused may rely on, and that a new index is sound. Assumes nothing.
+use mathlib.Core.Path.{_≡_, refl, sym, ap, _∙_}
+use mathlib.Core.Logic.{_⊎_, inl, inr}
+use mathlib.Core.Bool.{Bool, true, false, _&&_, _||_, not, true≢false}
+use mathlib.Core.List.{List, [], _∷_, map}
+use Prim.Native.Nat.{ℕ, zero, suc, _+_, _-_, _^_, _≤_, _<_}
+use native.Mathlib.Omega.{arith}
+use lib.Dec.{leb, ltb, eqb}
+use lib.ListN.{length, length-map}
+use borrow.Author.Tests.{ltb-true, ltb-false, leb-false, eqb-true, eqb-false, not-false}
+use Rattle.model.specs.declared.Reference.{Reference}
+use Rattle.model.specs.declared.Settings.{Settings}
+use Rattle.model.specs.declared.Action.{Action}
+use Rattle.model.specs.declared.Action.the-variants as Do
+use Rattle.model.specs.declared.Operation.{Operation}
+use Rattle.model.specs.declared.Operation.the-variants as Op
+use Rattle.model.specs.Lists.{hit, times, upFrom, All, none, one, nil, cons}
+use Rattle.model.specs.Tree.{Index, depth, slotsOf, newIndex}
+use Rattle.model.specs.Plain.{Wish, always, Task, each, pairs, tasksFor}
+use Rattle.model.specs.Change.{noCeiling}
+use Rattle.model.specs.Refuse.{Call, tasksOf, isRemove, isEach, descend, needed, refusal}
+use Rattle.model.specs.Sound.{InLimits, Sound, Fits, Ascending, Once}
+use Rattle.model.specs.Demands.{ReferenceFits, ActionFits, OperationFits, Lent}
+use Rattle.model.proofs.Lists.{by-test, or-left, or-right, all-map, hit-same, hit-other}
+use Rattle.model.proofs.Plain.{Grants}
+use Rattle.model.proofs.Changes.{Rising, Removing}
+use Rattle.model.proofs.Batches.{Room, Headroom}
+
+-- WHAT NO REFUSAL SAYS
+
+pub record Admitted (st : Settings) (c : Call) (x : Index) : Type 0 where
+  pub few : length (c .keys) ≤ st .order
+  pub matched : (isEach (c .operation) && not (eqb (length (c .references)) (length (c .keys)))) ≡ false
+  pub rising : descend (c .keys) ≡ false
+  pub room : ((eqb (length (c .keys)) 0 || isRemove (c .operation)) ≡ true)
+      ⊎ ((depth x < 8) × (needed (length (c .keys)) (depth x) ≤ length (x .unused)))
+
+pub admitted : (st : Settings) (c : Call) (x : Index) → refusal st c x ≡ 0 → Admitted st c x
+admitted st c x =
+    let n : ℕ = length (c .keys) in
+    by-test (λ (r : ℕ). r ≡ 0 → Admitted st c x) (ltb (st .order) n) (λ e q. absurd (omega arith)) (λ a.
+    by-test (λ (r : ℕ). r ≡ 0 → Admitted st c x) (isEach (c .operation) && not (eqb (length (c .references)) n)) (λ e q. absurd (omega arith)) (λ b.
+    by-test (λ (r : ℕ). r ≡ 0 → Admitted st c x) (descend (c .keys)) (λ e q. absurd (omega arith)) (λ d.
+    by-test (λ (r : ℕ). r ≡ 0 → Admitted st c x) (eqb n 0 || isRemove (c .operation))
+    (λ e q. record { few = ltb-false _ _ a; matched = b; rising = d; room = inl e }) (λ f.
+    by-test (λ (r : ℕ). r ≡ 0 → Admitted st c x) (leb 8 (depth x)) (λ e q. absurd (omega arith)) (λ g.
+    by-test (λ (r : ℕ). r ≡ 0 → Admitted st c x) (ltb (length (x .unused)) (needed n (depth x))) (λ e q. absurd (omega arith))
+    (λ k q. record { few = ltb-false _ _ a; matched = b; rising = d; room = inr (leb-false _ _ g, ltb-false _ _ k) }))))))
+
+-- THE TASKS OF A CALL: their keys are its keys
+
+each-keys : (w : Wish) (ks : List ℕ) → map (λ t. t .key) (each w ks) ≡ ks
+each-keys w [] = refl
+each-keys w (k ∷ ks) = ap (k ∷_) (each-keys w ks)
+
+pairs-keys : (rs : List Reference) (ks : List ℕ) → length rs ≡ length ks → map (λ t. t .key) (pairs rs ks) ≡ ks
+pairs-keys [] [] e = refl
+pairs-keys [] (k ∷ ks) e = absurd (omega arith)
+pairs-keys (r ∷ rs) [] e = absurd (omega arith)
+pairs-keys (r ∷ rs) (k ∷ ks) e = ap (k ∷_) (pairs-keys rs ks (omega arith))
+
+task-keys : (o : Operation) (rs : List Reference) (ks : List ℕ) → (isEach o && not (eqb (length rs) (length ks))) ≡ false → map (λ t. t .key) (tasksFor o rs ks) ≡ ks
+task-keys (Op.Set r) rs ks e = each-keys _ ks
+task-keys Op.SetEach rs ks e = pairs-keys rs ks (eqb-true (length rs) (length ks) (not-false (eqb (length rs) (length ks)) e))
+task-keys Op.Remove rs ks e = each-keys _ ks
+task-keys (Op.Compare x a) rs ks e = each-keys _ ks
+
+pub all-keys : (P : ℕ → Type 0) (ts : List Task) → All P (map (λ t. t .key) ts) → All (λ t. P (t .key)) ts
+all-keys P [] none = none
+all-keys P (t ∷ ts) (one g gs) = one g (all-keys P ts gs)
+
+above-first : (b : ℕ) (ts : List Task) → descend (b ∷ map (λ t. t .key) ts) ≡ false → All (λ u. b ≤ u .key) ts
+above-first b [] e = none
+above-first b (t ∷ ts) e =
+    let le : b ≤ t .key = ltb-false _ _ (or-left (ltb (t .key) b) (descend (t .key ∷ map (λ t. t .key) ts)) e) in
+    one le (all-map (λ u g. omega arith) (above-first (t .key) ts (or-right (ltb (t .key) b) (descend (t .key ∷ map (λ t. t .key) ts)) e)))
+
+descend-tail : (k : ℕ) (ks : List ℕ) → descend (k ∷ ks) ≡ false → descend ks ≡ false
+descend-tail k [] e = refl
+descend-tail k (j ∷ ks) e = or-right (ltb j k) (descend (j ∷ ks)) e
+
+rising-of : (ts : List Task) → descend (map (λ t. t .key) ts) ≡ false → Rising ts
+rising-of [] e = nil
+rising-of (t ∷ ts) e = cons (above-first (t .key) ts e) (rising-of ts (descend-tail (t .key) (map (λ t. t .key) ts) e))
+
+-- a Remove's tasks are removals, and so are none
+each-removes : (ks : List ℕ) → Removing (each (always Do.Remove) ks)
+each-removes [] = none
+each-removes (k ∷ ks) = one refl (each-removes ks)
+
+pub removing : (o : Operation) (rs : List Reference) (ks : List ℕ) → isRemove o ≡ true → Removing (tasksFor o rs ks)
+removing Op.Remove rs ks e = each-removes ks
+removing (Op.Set r) rs ks e = absurd (true≢false (sym e))
+removing Op.SetEach rs ks e = absurd (true≢false (sym e))
+removing (Op.Compare x a) rs ks e = absurd (true≢false (sym e))
+
+none-removes : (ts : List Task) → length ts ≡ 0 → Removing ts
+none-removes [] e = none
+none-removes (t ∷ ts) e = absurd (omega arith)
+
+either : (a b : Bool) → (a || b) ≡ true → (a ≡ true) ⊎ (b ≡ true)
+either true b q = inl refl
+either false b q = inr q
+
+-- WHAT THE TASKS PUT IN FITS
+
+each-grants : (w : Wish) → ((k : ℕ) → k < 2 ^ 64 → Grants Fits (record { key = k; wish = w })) → {ks : List ℕ} → All (λ k. k < 2 ^ 64) ks → All (Grants Fits) (each w ks)
+each-grants w f none = none
+each-grants w f (one {x = k} g gs) = one (f k g) (each-grants w f gs)
+
+action-grants : (a : Action) (k : ℕ) → ActionFits a → k < 2 ^ 64 → Grants Fits (record { key = k; wish = always a })
+action-grants (Do.Set r) k h g = record { key = g; place = h .place; size = h .size }
+action-grants Do.Remove k h g = tt
+
+pairs-grants : {rs : List Reference} {ks : List ℕ} → All ReferenceFits rs → All (λ k. k < 2 ^ 64) ks → All (Grants Fits) (pairs rs ks)
+pairs-grants none none = none
+pairs-grants none (one g gs) = none
+pairs-grants (one h hs) none = none
+pairs-grants (one {x = r} h hs) (one {x = k} g gs) = one (action-grants (Do.Set r) k h g) (pairs-grants hs gs)
+
+task-grants : (o : Operation) (rs : List Reference) (ks : List ℕ) → OperationFits o → All ReferenceFits rs → All (λ k. k < 2 ^ 64) ks → All (Grants Fits) (tasksFor o rs ks)
+task-grants (Op.Set r) rs ks h hs g = each-grants _ (λ k q. action-grants (Do.Set r) k h q) g
+task-grants Op.SetEach rs ks h hs g = pairs-grants hs g
+task-grants Op.Remove rs ks h hs g = each-grants _ (λ k q. tt) g
+task-grants (Op.Compare e a) rs ks h hs g = each-grants _ (λ k q. action-grants a k h q) g
+
+-- A CALL THAT IS NOT REFUSED
+
+pub record Passes (st : Settings) (c : Call) (x : Index) : Type 0 where
+  pub keys : map (λ t. t .key) (tasksOf c) ≡ c .keys
+  pub short : length (tasksOf c) ≤ st .order
+  pub rising : Rising (tasksOf c)
+  pub low : All (λ t. t .key ≤ noCeiling) (tasksOf c)
+  pub grants : All (Grants Fits) (tasksOf c)
+  pub room : Room x (tasksOf c)
+  pub headroom : Headroom x (tasksOf c)
+
+pub passes : (st : Settings) (c : Call) (x : Index) → Sound st x → Lent c → refusal st c x ≡ 0 → Passes st c x
+passes st c x s lent q =
+    let a : Admitted st c x = admitted st c x q in
+    let ts : List Task = tasksOf c in
+    let keys : map (λ t. t .key) ts ≡ c .keys = task-keys (c .operation) (c .references) (c .keys) (a .matched) in
+    let same : length ts ≡ length (c .keys) = sym (length-map ts (λ t. t .key)) ∙ ap length keys in
+    let lows : All (λ k. k ≤ noCeiling) (c .keys) = all-map (λ k g. omega arith) (lent .keys) in
+    record {
+      keys = keys;
+      short = rw same (a .few);
+      rising = rising-of ts (ap descend keys ∙ a .rising);
+      low = all-keys (λ k. k ≤ noCeiling) ts (rw keys lows);
+      grants = task-grants (c .operation) (c .references) (c .keys) (lent .operation) (lent .references) (lent .keys);
+      room = by-room same (a .room);
+      headroom = by-headroom same (a .room);
+    }
+  where
+    removes : length (tasksOf c) ≡ length (c .keys) → (eqb (length (c .keys)) 0 ≡ true) ⊎ (isRemove (c .operation) ≡ true) → Removing (tasksOf c)
+    removes e (inl z) = none-removes (tasksOf c) (e ∙ eqb-true _ _ z)
+    removes e (inr r) = removing (c .operation) (c .references) (c .keys) r
+
+    by-room : length (tasksOf c) ≡ length (c .keys)
+        → ((eqb (length (c .keys)) 0 || isRemove (c .operation)) ≡ true) ⊎ ((depth x < 8) × (needed (length (c .keys)) (depth x) ≤ length (x .unused)))
+        → Room x (tasksOf c)
+    by-room e (inl r) = inr (removes e (either (eqb (length (c .keys)) 0) (isRemove (c .operation)) r))
+    by-room e (inr g) = inl (rw e (g .1))
+
+    by-headroom : length (tasksOf c) ≡ length (c .keys)
+        → ((eqb (length (c .keys)) 0 || isRemove (c .operation)) ≡ true) ⊎ ((depth x < 8) × (needed (length (c .keys)) (depth x) ≤ length (x .unused)))
+        → Headroom x (tasksOf c)
+    by-headroom e (inl r) = inr (omega (arith, s .shallow), removes e (either (eqb (length (c .keys)) 0) (isRemove (c .operation)) r))
+    by-headroom e (inr g) = inl (omega (arith, g .0))
+
+-- A NEW INDEX IS SOUND
+
+run-below : (s a m : ℕ) → s < a → times s (upFrom a m) ≡ 0
+run-below s a zero lt = refl
+run-below s a (suc m) lt = omega (arith, hit-other s a (λ e. omega arith), run-below s (suc a) m (omega arith))
+
+run-above : (s a m : ℕ) → a + m ≤ s → times s (upFrom a m) ≡ 0
+run-above s a zero le = refl
+run-above s a (suc m) le = omega (arith, hit-other s a (λ e. omega arith), run-above s (suc a) m (omega arith))
+
+run-inside : (s a m : ℕ) → a ≤ s → s < a + m → times s (upFrom a m) ≡ 1
+run-inside s a zero le lt = absurd (omega arith)
+run-inside s a (suc m) le lt = go (eqb s a) refl (λ g k. run-inside s (suc a) m g k)
+  where
+    go : (t : Bool) → eqb s a ≡ t → (suc a ≤ s → s < suc a + m → times s (upFrom (suc a) m) ≡ 1) → hit s a + times s (upFrom (suc a) m) ≡ 1
+    go true q again =
+        let is : s ≡ a = eqb-true s a q in
+        omega (arith, hit-same s a is, run-below s (suc a) m (omega arith))
+    go false q again =
+        let ne : (s ≡ a → ⊥) = eqb-false s a q in
+        let e : times s (upFrom (suc a) m) ≡ 1 = again (omega arith) (omega arith) in
+        omega (arith, hit-other s a ne)
+
+new-once : (n : ℕ) → 0 < n → Once n (slotsOf (newIndex n)) (newIndex n .unused)
+new-once n pos s = by-test (λ (v : ℕ). hit s 0 + 0 + times s (upFrom 1 (n - 1)) ≡ v) (ltb s n) (λ e. inside s (ltb-true s n e)) (λ e. outside (ltb-false s n e))
+  where
+    inside : (s : ℕ) → s < n → hit s 0 + 0 + times s (upFrom 1 (n - 1)) ≡ 1
+    inside zero lt = omega (arith, hit-same 0 0 refl, run-below 0 1 (n - 1) (omega arith))
+    inside (suc s) lt = omega (arith, hit-other (suc s) 0 (λ e. omega arith), run-inside (suc s) 1 (n - 1) (omega arith) (omega arith))
+
+    outside : n ≤ s → hit s 0 + 0 + times s (upFrom 1 (n - 1)) ≡ 0
+    outside le = omega (arith, hit-other s 0 (λ e. omega arith), run-above s 1 (n - 1) (omega arith))
+
+run-over : (a m b : ℕ) → b ≤ a → All (λ f. b ≤ f) (upFrom a m)
+run-over a zero b le = none
+run-over a (suc m) b le = one le (run-over (suc a) m b (omega arith))
+
+run-up : (a m : ℕ) → Ascending (upFrom a m)
+run-up a zero = nil
+run-up a (suc m) = cons (run-over (suc a) m a (omega arith)) (run-up (suc a) m)
+
+pub new-sound : (st : Settings) → InLimits st → Sound st (newIndex (st .nodes))
+new-sound st lim =
+    record {
+      settings = lim;
+      rootSlot = refl;
+      once = new-once (st .nodes) (omega (arith, lim .many));
+      shallow = omega arith;
+      rooted = omega arith;
+      whole = none;
+      sorted = nil;
+      fit = none;
+      ascending = run-up 1 (st .nodes - 1);
+    }

@@ -1,0 +1,145 @@
+-- Every statement of specs/Demands.antt, proved. Assumes nothing.
+use mathlib.Core.Path.{_≡_, refl, sym, ap, _∙_}
+use mathlib.Core.Logic.{_≢_}
+use mathlib.Core.List.{List, [], map}
+use Prim.Native.Nat.{ℕ, zero, suc, suc-le-suc}
+use native.Mathlib.Omega.{arith}
+use Rattle.model.specs.declared.Entry.{Entry}
+use Rattle.model.specs.declared.Settings.{Settings}
+use Rattle.model.specs.Lists.{All, none, one}
+use Rattle.model.specs.Tree.{Index, Tree, entriesOf, adds, sumOf, newIndex}
+use Rattle.model.specs.Plain.{Task, plainList, plainCounts, noCounts}
+use Rattle.model.specs.Change.{batch}
+use Rattle.model.specs.Answer.{unless}
+use Rattle.model.specs.Look.{listing, found, dueIn}
+use Rattle.model.specs.Refuse.{Call, tasksOf, refusal, indexAfter}
+use Rattle.model.specs.Sound.{Rooted, Sound}
+use Rattle.model.specs.Demands.{Lent, Batches, OneBatch, RemoveTakesNone, runAll, plainAfter, plainAll, AnswersFrom, Demand3, Swap, Demands}
+use Rattle.model.proofs.Lists.{all-map, all-swap}
+use Rattle.model.proofs.Plain.{list-sorted, list-all, Differs, list-swap, counts-swap}
+use Rattle.model.proofs.Trees.{total-list}
+use Rattle.model.proofs.Changes.{Ready}
+use Rattle.model.proofs.Batches.{Fine, BatchOwes, batch-law}
+use Rattle.model.proofs.Calls.{Passes, passes, removing, all-keys, new-sound}
+use Rattle.model.proofs.Scans.{openings-law}
+use Rattle.model.proofs.OverFull.{over-full-child}
+use Rattle.model.proofs.Frames.{read-written, write-read}
+use Rattle.model.proofs.Readable.{frames-read}
+
+-- ONE BATCH
+
+rooted-ready : (st : Settings) (h : ℕ) (n : Tree h) → Rooted st h n → Ready st h n
+rooted-ready st zero n r = r
+rooted-ready st (suc h) n r = record { some = omega (arith, r .0); few = r .1 }
+
+pub sound-fine : (st : Settings) (x : Index) → Sound st x → Fine st x
+sound-fine st x s = record { whole = s .whole; sorted = s .sorted; ready = rooted-ready st (x .height) (x .root) (s .rooted) }
+
+module _ (st : Settings) (c : Call) (x : Index) (s : Sound st x) (lent : Lent c) (accepted : refusal st c x ≡ 0) where
+  call : Passes st c x
+  call = passes st c x s lent accepted
+
+  pub owes : BatchOwes st (s .settings) x (tasksOf c) (batch st (tasksOf c) x)
+  owes = batch-law st (s .settings) x (tasksOf c) (call .short) (sound-fine st x s) (call .rising) (call .low)
+
+  pub batch-done : Batches st c x (batch st (tasksOf c) x)
+  batch-done =
+      record {
+        list = owes .list;
+        counts = owes .counts;
+        left = owes .left;
+        sound = record {
+          settings = s .settings;
+          rootSlot = owes .rootSlot ∙ s .rootSlot;
+          once = λ i. owes .slots (call .room) i ∙ s .once i;
+          shallow = suc-le-suc (owes .shallow (call .headroom));
+          rooted = owes .rooted;
+          whole = owes .whole;
+          sorted = rw (owes .list) (list-sorted (tasksOf c) (s .sorted));
+          fit = rw (owes .list) (list-all _ (call .grants) (s .fit));
+          ascending = owes .up (s .ascending);
+        };
+      }
+
+pub one-batch : OneBatch
+one-batch st c x s lent q = batch-done st c x s lent q
+
+pub remove-takes-none : RemoveTakesNone
+remove-takes-none st c x s lent q e =
+    let o = owes st c x s lent q in
+    let rem = removing (c .operation) (c .references) (c .keys) e in
+    (o .grows rem, suc-le-suc (o .lower rem))
+
+-- ANY SEQUENCE
+
+pub answers-from : (x : Index) (es : List Entry) → entriesOf x ≡ es → AnswersFrom es x
+answers-from x es e =
+    record {
+      holds = e;
+      gets = λ ks room. ap (λ (fs : List Entry). listing room (found ks fs)) e;
+      scans = λ q room. ap (λ (fs : List Entry). listing room (dueIn q fs)) e;
+      totals = total-list (suc (x .height)) (x .root) ∙ ap (λ (fs : List Entry). sumOf (map adds fs)) e;
+    }
+
+-- the index and the list after one more call
+pub record Kept (st : Settings) (es : List Entry) (x : Index) : Type 0 where
+  pub sound : Sound st x
+  pub list : entriesOf x ≡ es
+
+keeps : (st : Settings) (c : Call) (x : Index) (es : List Entry) → Lent c → Kept st es x
+    → Kept st (plainAfter (refusal st c x) (tasksOf c) es) (indexAfter x (unless (refusal st c x) (batch st (tasksOf c) x)))
+keeps st c x es lent k = by (refusal st c x) refl
+  where
+    by : (n : ℕ) → refusal st c x ≡ n → Kept st (plainAfter n (tasksOf c) es) (indexAfter x (unless n (batch st (tasksOf c) x)))
+    by zero q =
+        let b = batch-done st c x (k .sound) lent q in
+        record { sound = b .sound; list = b .list ∙ ap (plainList (tasksOf c)) (k .list) }
+    by (suc n) q = k
+
+sequence : (st : Settings) {cs : List Call} (x : Index) (es : List Entry) → All Lent cs → Kept st es x → Kept st (plainAll st cs x es) (runAll st cs x)
+sequence st x es none k = k
+sequence st x es (one {x = c} h hs) k = sequence st _ _ hs (keeps st c x es h k)
+
+pub demand-3 : Demand3
+demand-3 st cs lim lent =
+    let k : Kept st (plainAll st cs (newIndex (st .nodes)) []) (runAll st cs (newIndex (st .nodes))) =
+    sequence st (newIndex (st .nodes)) [] lent (record { sound = new-sound st lim; list = refl }) in
+    (k .sound, answers-from (runAll st cs (newIndex (st .nodes))) (plainAll st cs (newIndex (st .nodes)) []) (k .list))
+
+-- TWO NEIGHBOURS
+
+differ : (ts us : List Task) → All (λ k. All (λ j. k ≢ j) (map (λ u. u .key) us)) (map (λ t. t .key) ts) → All (λ t. Differs t us) ts
+differ ts us h = all-map (λ t g. all-keys (λ j. t .key ≢ j) us g) (all-keys (λ k. All (λ j. k ≢ j) (map (λ u. u .key) us)) ts h)
+
+pub swap : Swap
+swap st c d x s lc ld apart qc qcd qd qdc =
+    let cx = batch-done st c x s lc qc in
+    let dx = batch-done st d x s ld qd in
+    let cd = batch-done st d (batch st (tasksOf c) x .index) (cx .sound) ld qcd in
+    let dc = batch-done st c (batch st (tasksOf d) x .index) (dx .sound) lc qdc in
+    let pc = passes st c x s lc qc in
+    let pd = passes st d x s ld qd in
+    let far : All (λ t. Differs t (tasksOf d)) (tasksOf c) = differ (tasksOf c) (tasksOf d) (rw (pc .keys, pd .keys) apart) in
+    let near : All (λ t. Differs t (tasksOf c)) (tasksOf d) = differ (tasksOf d) (tasksOf c) (rw (pc .keys, pd .keys) (all-map (λ j g. all-map (λ k ne e. ne (sym e)) g) (all-swap apart))) in
+    record {
+      first = cx .counts ∙ sym (dc .counts ∙ ap (λ (fs : List Entry). plainCounts (tasksOf c) fs noCounts) (dx .list) ∙ counts-swap noCounts far (s .sorted));
+      second = cd .counts ∙ ap (λ (fs : List Entry). plainCounts (tasksOf d) fs noCounts) (cx .list) ∙ counts-swap noCounts near (s .sorted) ∙ sym (dx .counts);
+      same = answers-from (batch st (tasksOf d) (batch st (tasksOf c) x .index) .index) (entriesOf (batch st (tasksOf c) (batch st (tasksOf d) x .index) .index))
+          (cd .list ∙ ap (plainList (tasksOf d)) (cx .list) ∙ list-swap far (s .sorted) ∙ sym (dc .list ∙ ap (plainList (tasksOf c)) (dx .list)));
+    }
+
+-- ALL
+
+pub demands : Demands
+demands =
+    record {
+      oneBatch = one-batch;
+      removeTakesNone = remove-takes-none;
+      overFullChild = over-full-child;
+      demand3 = demand-3;
+      swap = swap;
+      openingsList = λ st q x s. openings-law q st (x .height) (x .root) (s .whole) (s .sorted);
+      readUndoesWrite = read-written;
+      writeUndoesRead = write-read;
+      framesRead = frames-read;
+    }

@@ -1,0 +1,14 @@
+-- The laws of specs/, and in Demands what document 01 demands.
+pub mod Lists
+pub mod Plain
+pub mod Trees
+pub mod Settles
+pub mod Changes
+pub mod Batches
+pub mod Scans
+pub mod Frames
+pub mod Readable
+pub mod OverFull
+pub mod Calls
+pub mod Demands
+pub mod Cases

@@ -1,0 +1,151 @@
+-- Laws of tests, of `All` and `Ordered`, and of joining, keeping and counting: they hold of any element. Assumes nothing.
+use mathlib.Core.Path.{_≡_, refl, sym, ap, _∙_}
+use mathlib.Core.Logic.{_⊎_, inl, inr}
+use mathlib.Core.Bool.{Bool, true, false, cond, _&&_, _||_, true≢false}
+use mathlib.Core.List.{List, [], _∷_, _++_, reverse, reverseAux, reverse-cons, append-assoc, append-nil}
+use Prim.Native.Nat.{ℕ, _+_}
+use native.Mathlib.Omega.{arith}
+use lib.ListN.{take, drop, take-append-drop}
+use borrow.Author.Tests.{eq-eqb, ne-eqb}
+use Rattle.model.specs.Lists.{concat, keep, hit, times, All, none, one, Ordered, nil, cons}
+
+-- TESTS
+
+-- a test that picks between two: what holds of each where it is picked holds of the pick
+pub by-test {ℓ κ} : {A : Type ℓ} (P : A → Type κ) (t : Bool) {x y : A} → (t ≡ true → P x) → (t ≡ false → P y) → P (cond t x y)
+by-test P true f g = f refl
+by-test P false f g = g refl
+
+pub both-left : (a b : Bool) → (a && b) ≡ true → a ≡ true
+both-left true b q = refl
+both-left false b q = q
+
+pub both-right : (a b : Bool) → (a && b) ≡ true → b ≡ true
+both-right true b q = q
+both-right false b q = absurd (true≢false (sym q))
+
+pub not-both : (a b : Bool) → (a && b) ≡ false → (a ≡ false) ⊎ (b ≡ false)
+not-both true b e = inr e
+not-both false b e = inl refl
+
+pub or-left : (a b : Bool) → (a || b) ≡ false → a ≡ false
+or-left true b q = q
+or-left false b q = refl
+
+pub or-right : (a b : Bool) → (a || b) ≡ false → b ≡ false
+or-right true b q = absurd (true≢false q)
+or-right false b q = q
+
+-- P HOLDS OF EACH
+
+pub all-append : {A : Type 0} {P : A → Type 0} {xs ys : List A} → All P xs → All P ys → All P (xs ++ ys)
+all-append none h = h
+all-append (one g gs) h = one g (all-append gs h)
+
+pub all-left : {A : Type 0} {P : A → Type 0} (xs ys : List A) → All P (xs ++ ys) → All P xs
+all-left [] ys h = none
+all-left (x ∷ xs) ys (one g gs) = one g (all-left xs ys gs)
+
+pub all-right : {A : Type 0} {P : A → Type 0} (xs ys : List A) → All P (xs ++ ys) → All P ys
+all-right [] ys h = h
+all-right (x ∷ xs) ys (one g gs) = all-right xs ys gs
+
+pub all-map : {A : Type 0} {P Q : A → Type 0} {xs : List A} → ((x : A) → P x → Q x) → All P xs → All Q xs
+all-map f none = none
+all-map f (one g gs) = one (f _ g) (all-map f gs)
+
+pub all-both : {A : Type 0} {P Q R : A → Type 0} {xs : List A} → ((x : A) → P x → Q x → R x) → All P xs → All Q xs → All R xs
+all-both f none none = none
+all-both f (one g gs) (one k ks) = one (f _ g k) (all-both f gs ks)
+
+pub all-every : {A : Type 0} {P : A → Type 0} (xs : List A) → ((x : A) → P x) → All P xs
+all-every [] f = none
+all-every (x ∷ xs) f = one (f x) (all-every xs f)
+
+-- each of the one stands so to each of the other, seen from the other
+pub all-swap : {A B : Type 0} {R : A → B → Type 0} {xs : List A} {ys : List B} → All (λ x. All (R x) ys) xs → All (λ y. All (λ x. R x y) xs) ys
+all-swap {ys = ys} none = all-every ys (λ y. none)
+all-swap (one h hs) = all-both (λ y g gs. one g gs) h (all-swap hs)
+
+pub all-turned : {A : Type 0} {P : A → Type 0} (xs ys : List A) → All P xs → All P ys → All P (reverseAux xs ys)
+all-turned [] ys none k = k
+all-turned (x ∷ xs) ys (one g gs) k = all-turned xs (x ∷ ys) gs (one g k)
+
+pub all-head : {A : Type 0} {P : A → Type 0} {x : A} {xs : List A} → All P (x ∷ xs) → P x
+all-head (one g gs) = g
+
+pub all-tail : {A : Type 0} {P : A → Type 0} {x : A} {xs : List A} → All P (x ∷ xs) → All P xs
+all-tail (one g gs) = gs
+
+pub all-take : {A : Type 0} {P : A → Type 0} (n : ℕ) {xs : List A} → All P xs → All P (take n xs)
+all-take n {xs} h = all-left (take n xs) (drop n xs) (rw take-append-drop h)
+
+pub all-drop : {A : Type 0} {P : A → Type 0} (n : ℕ) {xs : List A} → All P xs → All P (drop n xs)
+all-drop n {xs} h = all-right (take n xs) (drop n xs) (rw take-append-drop h)
+
+-- ORDER
+
+module _ {A : Type 0} {R : A → A → Type 0} where
+  pub ordered-append : {a b : List A} → Ordered R a → Ordered R b → All (λ x. All (R x) b) a → Ordered R (a ++ b)
+  ordered-append nil sb none = sb
+  ordered-append (cons h sa) sb (one g gs) = cons (all-append h g) (ordered-append sa sb gs)
+
+  pub ordered-left : (a b : List A) → Ordered R (a ++ b) → Ordered R a
+  ordered-left [] b s = nil
+  ordered-left (x ∷ a) b (cons h s) = cons (all-left a b h) (ordered-left a b s)
+
+  pub ordered-right : (a b : List A) → Ordered R (a ++ b) → Ordered R b
+  ordered-right [] b s = s
+  ordered-right (x ∷ a) b (cons h s) = ordered-right a b s
+
+  pub ordered-apart : (a b : List A) → Ordered R (a ++ b) → All (λ x. All (R x) b) a
+  ordered-apart [] b s = none
+  ordered-apart (x ∷ a) b (cons h s) = one (all-right a b h) (ordered-apart a b s)
+
+-- JOINING AND KEEPING
+
+module _ {A : Type 0} where
+  pub concat-append : (a b : List (List A)) → concat (a ++ b) ≡ concat a ++ concat b
+  concat-append [] b = refl
+  concat-append (x ∷ a) b = ap (x ++_) (concat-append a b) ∙ sym (append-assoc x (concat a) (concat b))
+
+  pub keep-append : (p : A → Bool) (a b : List A) → keep p (a ++ b) ≡ keep p a ++ keep p b
+  keep-append p [] b = refl
+  keep-append p (x ∷ a) b = go (p x) (keep-append p a b)
+    where
+      go : (t : Bool) → keep p (a ++ b) ≡ keep p a ++ keep p b → cond t (x ∷ keep p (a ++ b)) (keep p (a ++ b)) ≡ cond t (x ∷ keep p a) (keep p a) ++ keep p b
+      go true e = ap (x ∷_) e
+      go false e = e
+
+  pub keep-none : (p : A → Bool) {xs : List A} → All (λ x. p x ≡ false) xs → keep p xs ≡ []
+  keep-none p none = refl
+  keep-none p (one e es) = rw e (keep-none p es)
+
+  pub keep-reverse : (p : A → Bool) (xs : List A) → keep p (reverse xs) ≡ reverse (keep p xs)
+  keep-reverse p [] = refl
+  keep-reverse p (x ∷ xs) = ap (keep p) (reverse-cons x xs) ∙ keep-append p (reverse xs) (x ∷ []) ∙ ap (_++ keep p (x ∷ [])) (keep-reverse p xs) ∙ go (p x)
+    where
+      go : (t : Bool) → reverse (keep p xs) ++ cond t (x ∷ []) [] ≡ reverse (cond t (x ∷ keep p xs) (keep p xs))
+      go true = sym (reverse-cons x (keep p xs))
+      go false = append-nil (reverse (keep p xs))
+
+  pub cons-nil : {x : A} {xs : List A} → _≡_ {A = List A} (x ∷ xs) [] → ⊥
+  cons-nil e = let q : _≡_ {A = ℕ} 1 0 = ap (λ (l : List A). cond-empty l) e in omega arith
+    where
+      cond-empty : List A → ℕ
+      cond-empty [] = 0
+      cond-empty (y ∷ ys) = 1
+
+-- COUNTING
+
+pub hit-same : (x y : ℕ) → x ≡ y → hit x y ≡ 1
+unfolding hit
+hit-same x y e = rw (eq-eqb x y e) refl
+
+pub hit-other : (x y : ℕ) → (x ≡ y → ⊥) → hit x y ≡ 0
+unfolding hit
+hit-other x y e = rw (ne-eqb x y e) refl
+
+pub times-append : (x : ℕ) (a b : List ℕ) → times x (a ++ b) ≡ times x a + times x b
+times-append x [] b = omega arith
+times-append x (y ∷ a) b = omega (arith, times-append x a b)

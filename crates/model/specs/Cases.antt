@@ -1,0 +1,235 @@
+-- The numbered cases of document 01 as one list, what its program prints, and readings that the page leaves open: what is computed, and what is
+-- wanted. Order 4, minimum 2; P is the pool after the program's input. Assumes nothing.
+use mathlib.Core.Path.{_≡_}
+use mathlib.Core.Bool.{Bool, true, false}
+use mathlib.Core.List.{List, [], _∷_, map}
+use Prim.Native.Nat.{ℕ, _+_, _-_}
+use Prim.Native.Char.{code}
+use Prim.Native.String as String
+use lib.ListN.{length}
+use Rattle.model.specs.declared.Entry.{Entry}
+use Rattle.model.specs.declared.Reference.{Reference}
+use Rattle.model.specs.declared.Settings.{Settings}
+use Rattle.model.specs.declared.Totals.{Totals}
+use Rattle.model.specs.declared.Operation.the-variants as Op
+use Rattle.model.specs.declared.Expectation.the-variants as Expect
+use Rattle.model.specs.declared.Action.the-variants as Do
+use Rattle.model.specs.declared.Bound.{Bound}
+use Rattle.model.specs.declared.Bound.the-variants.{Unbounded, Included, Excluded}
+use Rattle.model.specs.declared.Direction.{Direction}
+use Rattle.model.specs.declared.Direction.the-variants.{Up, Down}
+use Rattle.model.specs.declared.Sift.the-variants.{All}
+use Rattle.model.specs.Lists.{concat, upFrom}
+use Rattle.model.specs.Tree.{Tree, Index, slotsOf, totalsOf, newIndex}
+use Rattle.model.specs.Plain.{entryFor}
+use Rattle.model.specs.Share.{shareOut}
+use Rattle.model.specs.Change.{Batched}
+use Rattle.model.specs.Answer.{Answer, refused, done}
+use Rattle.model.specs.Look.{scan, getAll}
+use Rattle.model.specs.Refuse.{Call, answer, indexAfter}
+use Rattle.model.specs.Frame.{Frame, leaf, interior, framesOf, lineOf}
+use Rattle.model.specs.ReadFrame.{readLine}
+
+pub record Case : Type 1 where
+  pub Kind : Type 0
+  pub got : Kind
+  pub wanted : Kind
+
+abbrev pub case : (K : Type 0) → K → K → Case
+case K a b = record { Kind = K; got = a; wanted = b }
+
+-- every case comes out as it is wanted
+abbrev pub Hold : List Case → Type 0
+Hold [] = Unit {0}
+Hold (c ∷ cs) = (c .got ≡ c .wanted) × Hold cs
+
+-- A WAY TO WRITE THEM
+
+-- a text as bytes
+abbrev pub text : String.String → List ℕ
+text String.[] = []
+text (String._∷_ c s) = code c ∷ text s
+
+abbrev pub desk : Settings
+desk = record { nodes = 16; order = 4; minimum = 2 }
+
+-- key k has place 256 + k and size 16, as in the program's input
+abbrev pub ref : ℕ → Reference
+ref k = record { place = 256 + k; size = 16 }
+
+abbrev pub set : List ℕ → Call
+set ks = record { operation = Op.SetEach; references = map ref ks; keys = ks }
+
+abbrev pub drop : List ℕ → Call
+drop ks = record { operation = Op.Remove; references = []; keys = ks }
+
+abbrev pub absentRemove : Call
+absentRemove = record { operation = Op.Compare Expect.Absent Do.Remove; references = []; keys = 1 ∷ [] }
+
+abbrev pub after : Settings → List Call → Index → Index
+after st [] x = x
+after st (c ∷ cs) x = after st cs (indexAfter x (answer st c x))
+
+-- the four counts, or the number of the refusal
+abbrev pub told : Answer Batched → List ℕ
+told (refused n) = n ∷ []
+told (done b) = b .counts .added ∷ b .counts .replaced ∷ b .counts .removed ∷ b .counts .nothing ∷ []
+
+abbrev pub keysIn : Frame → List (List ℕ)
+keysIn (leaf es) = map (λ e. e .key) es ∷ []
+keysIn (interior bs) = []
+
+-- the keys of each leaf
+abbrev pub leaves : Index → List (List ℕ)
+leaves x = concat (map keysIn (framesOf x))
+
+abbrev pub lines : Index → List (List ℕ)
+lines x = map lineOf (framesOf x)
+
+pub record Seen : Type 0 where
+  pub keys : List ℕ
+  pub opened : ℕ
+  pub more : Bool
+
+-- key 2 marked as deleted: its entry is dead
+abbrev pub clear2 : Call
+clear2 = record { operation = Op.Set (record { place = 0; size = 5 }); references = []; keys = 2 ∷ [] }
+
+-- a scan between two bounds, with room for so many
+abbrev pub between : Direction → Bound → Bound → ℕ → Index → Seen
+between d a b room x =
+    let s = scan (record { start = a; end = b; direction = d; sift = All }) room x in
+    record { keys = map (λ e. e .key) (s .listed .written); opened = s .opened; more = s .listed .more }
+
+abbrev pub P : Index
+P = after desk (set (1 ∷ 2 ∷ 3 ∷ 4 ∷ []) ∷ set (5 ∷ []) ∷ []) (newIndex 16)
+
+-- case 3's
+abbrev pub P3 : Index
+P3 = after desk (set (6 ∷ []) ∷ set (7 ∷ []) ∷ set (8 ∷ []) ∷ []) P
+
+-- case 4's
+abbrev pub P4 : Index
+P4 = after desk (set (9 ∷ []) ∷ []) P3
+
+-- trees written down: leaves of some keys in slots from s on, and interiors above them
+abbrev pub leafOf : ℕ → List ℕ → Tree 0
+leafOf s ks = record { slot = s; items = map (λ k. entryFor k (ref k)) ks }
+
+abbrev pub leavesFrom : ℕ → List (List ℕ) → List (Tree 0)
+leavesFrom s [] = []
+leavesFrom s (ks ∷ kss) = leafOf s ks ∷ leavesFrom (s + 1) kss
+
+abbrev pub grove : List (List ℕ) → Index
+grove kss = record { height = 1; root = record { slot = 0; items = leavesFrom 1 kss }; unused = upFrom (1 + length kss) (15 - length kss) }
+
+abbrev pub twoGroves : List (List ℕ) → List (List ℕ) → Index
+twoGroves a b =
+    let n = length a + length b in
+    record {
+      height = 2;
+      root = record {
+        slot = 0;
+        items = record { slot = 1; items = leavesFrom 3 a } ∷ record { slot = 2; items = leavesFrom (3 + length a) b } ∷ [];
+      };
+      unused = upFrom (3 + n) (13 - n);
+    }
+
+-- interiors whose children can be told apart by their slots
+abbrev pub wide : ℕ → List ℕ → Tree 1
+wide s slots = record { slot = s; items = map (λ c. record { slot = c; items = [] }) slots }
+
+abbrev pub childSlots : Tree 1 → List ℕ
+childSlots n = map (λ c. c .slot) (n .items)
+
+-- THE FOURTEEN
+
+abbrev pub cases : List Case
+cases =
+    case (List (List ℕ)) (lines (newIndex 16)) (text "01" ∷ [])
+    ∷ case (List (List ℕ)) (leaves P) ((1 ∷ 2 ∷ 3 ∷ []) ∷ (4 ∷ 5 ∷ []) ∷ [])
+    ∷ case (List (List ℕ)) (leaves P3) ((1 ∷ 2 ∷ 3 ∷ 4 ∷ []) ∷ (5 ∷ 6 ∷ 7 ∷ 8 ∷ []) ∷ [])
+    ∷ case (List (List ℕ)) (leaves P4) ((1 ∷ 2 ∷ 3 ∷ 4 ∷ []) ∷ (5 ∷ 6 ∷ 7 ∷ []) ∷ (8 ∷ 9 ∷ []) ∷ [])
+    ∷ case (List (List ℕ)) (leaves (after desk (drop (4 ∷ []) ∷ []) P)) ((1 ∷ 2 ∷ 3 ∷ 5 ∷ []) ∷ [])
+    ∷ case (List (List ℕ)) (leaves (after desk (drop (5 ∷ 6 ∷ 7 ∷ []) ∷ []) P3)) ((1 ∷ 2 ∷ 3 ∷ []) ∷ (4 ∷ 8 ∷ []) ∷ [])
+    ∷ case (List (List ℕ)) (map childSlots (shareOut desk (wide 1 (3 ∷ 4 ∷ 5 ∷ []) ∷ []) (wide 2 (6 ∷ 7 ∷ 8 ∷ 9 ∷ 10 ∷ [])) [] [] .rest))
+    ((3 ∷ 4 ∷ 5 ∷ 6 ∷ []) ∷ (7 ∷ 8 ∷ 9 ∷ 10 ∷ []) ∷ [])
+    ∷ case (List (List ℕ)) (told (answer desk (set (1 ∷ [])) (newIndex 8)) ∷ told (answer desk (set (1 ∷ 2 ∷ [])) (newIndex 8)) ∷ [])
+    ((1 ∷ 0 ∷ 0 ∷ 0 ∷ []) ∷ (7 ∷ []) ∷ [])
+    ∷ case (List (List ℕ)) (told (answer desk (set (1 ∷ 2 ∷ 3 ∷ 4 ∷ [])) (newIndex 16)) ∷ told (answer desk (set (1 ∷ 2 ∷ 3 ∷ 4 ∷ 5 ∷ [])) (newIndex 16)) ∷ [])
+    ((4 ∷ 0 ∷ 0 ∷ 0 ∷ []) ∷ (3 ∷ []) ∷ [])
+    ∷ case (List Entry × List ℕ)
+    (let a = answer desk (record { operation = Op.SetEach; references = ref 1 ∷ ref 2 ∷ []; keys = 7 ∷ 7 ∷ [] }) (newIndex 16) in
+    (getAll (7 ∷ []) 9 (indexAfter (newIndex 16) a) .written, told a))
+    (entryFor 7 (ref 2) ∷ [], 1 ∷ 1 ∷ 0 ∷ 0 ∷ [])
+    ∷ case (List Seen) (between Up (Excluded 3) (Included 5) 9 P ∷ between Down (Excluded 3) (Included 5) 9 P ∷ [])
+    (record { keys = 4 ∷ 5 ∷ []; opened = 2; more = false } ∷ record { keys = 5 ∷ 4 ∷ []; opened = 2; more = false } ∷ [])
+    ∷ case (List ℕ)
+    (between Up (Included 1) (Included 2) 9 P .opened ∷ between Down (Included 1) (Included 2) 9 P .opened ∷ between Up (Included 1) (Included 3) 9 P .opened ∷ [])
+    (2 ∷ 3 ∷ 3 ∷ [])
+    ∷ case (List Entry) (getAll (2 ∷ 2 ∷ 9 ∷ []) 9 P .written) (entryFor 2 (ref 2) ∷ entryFor 2 (ref 2) ∷ [])
+    ∷ case Seen (between Up Unbounded Unbounded 0 P) (record { keys = []; opened = 2; more = true })
+    ∷ []
+
+-- WHAT THE PROGRAM PRINTS for the page's input, its frames read back, and the last of them with eight more zeros
+
+abbrev pub program : List Case
+program =
+    case (List (List ℕ))
+    (told (answer desk (set (1 ∷ 2 ∷ 3 ∷ 4 ∷ [])) (newIndex 16)) ∷ told (answer desk (set (5 ∷ [])) (after desk (set (1 ∷ 2 ∷ 3 ∷ 4 ∷ []) ∷ []) (newIndex 16))) ∷ [])
+    ((4 ∷ 0 ∷ 0 ∷ 0 ∷ []) ∷ (1 ∷ 0 ∷ 0 ∷ 0 ∷ []) ∷ [])
+    ∷ case (List (List ℕ)) (lines P)
+    (text "000000000000000003000000010000000300000000000000000000003000000000000000050000000200000002000000000000000000000020"
+    ∷ text "01000000000000000100000000000001010000001000000000000000020000000000000102000000100000000000000003000000000000010300000010"
+    ∷ text "0100000000000000040000000000000104000000100000000000000005000000000000010500000010"
+    ∷ [])
+    ∷ case (List (Answer Frame)) (map readLine (lines P)) (map done (framesOf P))
+    ∷ case (Answer Frame) (readLine (text "010000000000000004000000000000010400000010000000000000000500000000000001050000001000000000")) (refused 10)
+    ∷ []
+
+-- READINGS (docs/DECISIONS.md has their reasons)
+
+-- order 7 and minimum 3, as some of them want
+abbrev pub broad : Settings
+broad = record { nodes = 16; order = 7; minimum = 3 }
+
+abbrev pub fiveOfEight : Index
+fiveOfEight = after (record { nodes = 8; order = 4; minimum = 2 }) (set (1 ∷ []) ∷ set (2 ∷ []) ∷ set (3 ∷ []) ∷ set (4 ∷ []) ∷ set (5 ∷ []) ∷ []) (newIndex 8)
+
+abbrev pub readings : List Case
+readings =
+    -- the slots of P, and of case 5's tree, whose other slots are unused again
+    case (List ℕ) (slotsOf P) (0 ∷ 1 ∷ 2 ∷ [])
+    ∷ case (List ℕ × List ℕ) (let x = after desk (drop (4 ∷ []) ∷ []) P in (slotsOf x, x .unused)) (0 ∷ [], upFrom 1 15)
+    -- Compare whose action is Remove: on an absent key it does nothing, and refusal 7 is for it too
+    ∷ case (List (List ℕ)) (told (answer desk absentRemove (newIndex 16)) ∷ told (answer desk absentRemove fiveOfEight) ∷ []) ((0 ∷ 0 ∷ 0 ∷ 1 ∷ []) ∷ (7 ∷ []) ∷ [])
+    -- a dead entry is no more listed by a scan, still found by a get, and counted as dead
+    ∷ case (List Seen × List Entry × Totals)
+    (let x = after desk (clear2 ∷ []) P in (between Up Unbounded (Included 3) 9 x ∷ [], getAll (2 ∷ []) 9 x .written, totalsOf x))
+    (record { keys = 1 ∷ 3 ∷ []; opened = 3; more = false } ∷ [], record { key = 2; place = 0; size = 5 } ∷ [], record { live = 4; dead = 1; size = 69 })
+    -- start above end
+    ∷ case (List Seen) (between Up (Included 5) (Included 1) 9 P ∷ between Down (Included 5) (Included 1) 9 P ∷ [])
+    (record { keys = []; opened = 1; more = false } ∷ record { keys = []; opened = 2; more = false } ∷ [])
+    -- output full
+    ∷ case (List Seen) (between Up Unbounded Unbounded 2 P ∷ between Up Unbounded Unbounded 3 P ∷ between Up Unbounded Unbounded 5 P ∷ [])
+    (record { keys = 1 ∷ 2 ∷ []; opened = 2; more = true } ∷ record { keys = 1 ∷ 2 ∷ 3 ∷ []; opened = 3; more = true }
+    ∷ record { keys = 1 ∷ 2 ∷ 3 ∷ 4 ∷ 5 ∷ []; opened = 3; more = false } ∷ [])
+    -- after sharing with the previous child the walk steps back: 7 goes before 10
+    ∷ case (List (List ℕ)) (leaves (after desk (set (5 ∷ 7 ∷ []) ∷ []) (grove ((1 ∷ 2 ∷ []) ∷ (10 ∷ 20 ∷ 30 ∷ 40 ∷ []) ∷ []))))
+    ((1 ∷ 2 ∷ 5 ∷ 7 ∷ []) ∷ (10 ∷ 20 ∷ 30 ∷ 40 ∷ []) ∷ [])
+    -- the previous sibling is shared with first ..
+    ∷ case (List (List ℕ)) (leaves (after desk (set (55 ∷ 65 ∷ []) ∷ []) (grove ((10 ∷ 20 ∷ 30 ∷ []) ∷ (50 ∷ 60 ∷ 70 ∷ []) ∷ (80 ∷ 90 ∷ []) ∷ []))))
+    ((10 ∷ 20 ∷ 30 ∷ 50 ∷ []) ∷ (55 ∷ 60 ∷ 65 ∷ 70 ∷ []) ∷ (80 ∷ 90 ∷ []) ∷ [])
+    -- .. and joined with, unless the child is the first; a joint length above order is halved
+    ∷ case (List (List ℕ)) (leaves (after desk (drop (5 ∷ 6 ∷ []) ∷ []) P4)) ((1 ∷ 2 ∷ 3 ∷ []) ∷ (4 ∷ 7 ∷ []) ∷ (8 ∷ 9 ∷ []) ∷ [])
+    -- an only leaf of an only interior: the root collapses twice
+    ∷ case (List (List ℕ)) (leaves (after desk (drop (2 ∷ []) ∷ []) (twoGroves ((1 ∷ []) ∷ []) ((2 ∷ []) ∷ [])))) ((1 ∷ []) ∷ [])
+    -- setting an equal reference again is a change, so that a leaf below the minimum is joined
+    ∷ case (List (List ℕ)) (leaves (after broad (set (4 ∷ []) ∷ []) (grove ((1 ∷ 2 ∷ 3 ∷ []) ∷ (4 ∷ []) ∷ [])))) ((1 ∷ 2 ∷ 3 ∷ 4 ∷ []) ∷ [])
+    -- joined in the middle of a batch, the walk goes on from the joint node
+    ∷ case (List (List ℕ)) (leaves (after broad (set (5 ∷ 6 ∷ []) ∷ []) (grove ((1 ∷ 2 ∷ 3 ∷ []) ∷ (4 ∷ []) ∷ [])))) ((1 ∷ 2 ∷ 3 ∷ 4 ∷ 5 ∷ 6 ∷ []) ∷ [])
+    -- a node beside siblings may stay below the minimum
+    ∷ case (List (List ℕ))
+    (leaves (after desk (drop (11 ∷ 12 ∷ 13 ∷ 14 ∷ []) ∷ []) (twoGroves ((1 ∷ 2 ∷ 3 ∷ []) ∷ (4 ∷ 5 ∷ []) ∷ (6 ∷ 7 ∷ 8 ∷ 9 ∷ []) ∷ []) ((10 ∷ 11 ∷ 12 ∷ []) ∷ (13 ∷ 14 ∷ []) ∷ []))))
+    ((1 ∷ 2 ∷ 3 ∷ []) ∷ (4 ∷ 5 ∷ []) ∷ (6 ∷ 7 ∷ 8 ∷ 9 ∷ []) ∷ (10 ∷ []) ∷ [])
+    ∷ []

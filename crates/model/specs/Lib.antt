@@ -1,0 +1,14 @@
+-- Document 01 as definitions, one idea a file. `Sound` and `Demands` say what is proved of them, in proofs/.
+pub mod Lists
+pub mod Tree
+pub mod Plain
+pub mod Share
+pub mod Change
+pub mod Answer
+pub mod Look
+pub mod Refuse
+pub mod Frame
+pub mod ReadFrame
+pub mod Sound
+pub mod Demands
+pub mod Cases

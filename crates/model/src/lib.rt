@@ -1,0 +1,128 @@
+// The plain types of the index, and the small functions on them that every layer above uses.
+//
+// What they mean stands in specs/: a reader with document 01 in hand finds each of its rules there, one file to an idea.
+ghost use mathlib.Core.Path.{_≡_};
+ghost use Rattle.model.specs.Tree.{isLive};
+ghost use Rattle.model.specs.Plain.{noCounts, referenceOf};
+ghost use Rattle.model.specs.Look.{least};
+ghost use Rattle.model.specs.Refuse.{isRemove};
+
+// The settings of a pool: how many nodes it has, how many entries a node may hold, and below how many it is joined.
+pub struct Settings {
+    pub nodes: usize,
+    pub order: usize,
+    pub minimum: usize,
+}
+
+// Where a value lies (place 0 marks a deletion) and how many bytes it has.
+pub struct Reference {
+    pub place: u64,
+    pub size: u32,
+}
+
+// A key and its reference.
+pub struct Entry {
+    pub key: u64,
+    pub place: u64,
+    pub size: u32,
+}
+
+// What a Compare expects to find under a key.
+pub enum Expectation {
+    Absent,
+    Holds(Reference),
+}
+
+// What a Compare does where its expectation is met.
+pub enum Action {
+    Set(Reference),
+    Remove,
+}
+
+// What a batch does to each of its keys. The references of a SetEach are lent beside it, one a key.
+pub enum Operation {
+    Set(Reference),
+    SetEach,
+    Remove,
+    Compare(Expectation, Action),
+}
+
+// How many keys of a batch added, replaced, removed, or did nothing.
+pub struct Counts {
+    pub added: usize,
+    pub replaced: usize,
+    pub removed: usize,
+    pub nothing: usize,
+}
+
+// The number of live entries, of dead ones, and the sum of the sizes of all.
+pub struct Totals {
+    pub live: u32,
+    pub dead: u32,
+    pub size: u64,
+}
+
+// One end of a scan's range.
+pub enum Bound {
+    Unbounded,
+    Included(u64),
+    Excluded(u64),
+}
+
+pub enum Direction {
+    Up,
+    Down,
+}
+
+// Which sizes a scan lists.
+pub enum Sift {
+    All,
+    SizeAtLeast(u32),
+}
+
+pub fn is_live(e: Entry) -> bool
+    ensures { λ r. ⌜ r ≡ isLive e ⌝ }
+{
+    e.place != 0
+}
+
+pub fn no_counts() -> Counts
+    ensures { λ r. ⌜ r ≡ noCounts ⌝ }
+{
+    Counts {
+        added: 0,
+        replaced: 0,
+        removed: 0,
+        nothing: 0,
+    }
+}
+
+pub fn reference_of(e: Entry) -> Reference
+    ensures { λ r. ⌜ r ≡ referenceOf e ⌝ }
+{
+    Reference {
+        place: e.place,
+        size: e.size,
+    }
+}
+
+// The size from which on a sift lists an entry.
+pub fn least_size(s: Sift) -> u32
+    ensures { λ r. ⌜ r ≡ least s ⌝ }
+{
+    match s {
+        Sift::All => 0,
+        Sift::SizeAtLeast(n) => n,
+    }
+}
+
+pub fn is_remove(o: Operation) -> bool
+    ensures { λ r. ⌜ r ≡ isRemove o ⌝ }
+{
+    match o {
+        Operation::Set(_) => false,
+        Operation::SetEach => false,
+        Operation::Remove => true,
+        Operation::Compare(_, _) => false,
+    }
+}

@@ -1,0 +1,25 @@
+-- The words of a list of bytes: eight bytes to a word, the lowest first. Assumes nothing.
+use Prim.Native.Nat.{ℕ, zero, suc, _+_, _*_, _/_, _≤_}
+use mathlib.Core.Path.{_≡_}
+use mathlib.Core.List.{List, [], _∷_}
+use lib.ListN.{length, take, drop}
+
+-- the number that some bytes spell
+unfoldable pub word : List ℕ → ℕ
+word [] = 0
+word (b ∷ r) = b + 256 * word r
+
+-- the first n words of l
+unfoldable pub wordsN : ℕ → List ℕ → List ℕ
+wordsN zero l = []
+wordsN (suc n) l = word (take 8 l) ∷ wordsN n (drop 8 l)
+
+-- the words of l, without the bytes after the last whole one
+unfoldable pub words : List ℕ → List ℕ
+words l = wordsN (length l / 8) l
+
+-- a pool that was l₀ and is l has kept its size; `small` is for a caller's sums of indices
+pub record Same (l₀ l : List ℕ) : Type 0 where
+  pub bytes : length l ≡ length l₀
+  pub count : length (words l) ≡ length (words l₀)
+  pub small : length (words l₀) ≤ length l₀
