@@ -7,7 +7,7 @@ use native.Mathlib.Omega.{arith}
 use mathlib.Core.List.{List, [], _∷_, _++_}
 use lib.ListN.{length, take, drop, getD, set, length-append, length-take, length-drop, take-append-drop}
 use lib.Seq.{drop-drop, take-append-le, drop-append-le, take-at, drop-at, length-take-le, set-split, drop-cons, sets, sets-eq, append-snoc, getD-drop}
-use Rattle.words.specs.Words.{word, wordsN, words, Same}
+use Rattle.words.specs.Words.{word, wordsN, words, spell, bytesOf, Same}
 
 -- ---- how many words there are
 
@@ -101,11 +101,6 @@ bytes-take (suc n) (x ∷ l) h (suc i) = bytes-take n l (λ j. h (suc j)) i
 bytes-drop : (n : ℕ) (l : List ℕ) → Bytes l → Bytes (drop n l)
 bytes-drop n l h i = rw (getD-drop n l i 0) (h (n + i))
 
--- the n bytes that spell v
-unfoldable pub spell : ℕ → ℕ → List ℕ
-spell zero v = []
-spell (suc n) v = v % 256 ∷ spell n (v / 256)
-
 length-spell : (n v : ℕ) → length (spell n v) ≡ n
 unfolding spell
 length-spell zero v = refl
@@ -148,10 +143,6 @@ unfolding words
 words-lt l h i = wordsN-lt (length l / 8) l h i
 
 -- the bytes of some words
-unfoldable pub bytesOf : List ℕ → List ℕ
-bytesOf [] = []
-bytesOf (w ∷ ws) = spell 8 w ++ bytesOf ws
-
 pub length-bytesOf : (ws : List ℕ) → length (bytesOf ws) ≡ 8 * length ws
 unfolding bytesOf
 length-bytesOf [] = refl

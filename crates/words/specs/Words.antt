@@ -1,7 +1,7 @@
 -- The words of a list of bytes: eight bytes to a word, the lowest first. Assumes nothing.
-use Prim.Native.Nat.{ℕ, zero, suc, _+_, _*_, _/_, _≤_}
+use Prim.Native.Nat.{ℕ, zero, suc, _+_, _*_, _/_, _%_, _≤_}
 use mathlib.Core.Path.{_≡_}
-use mathlib.Core.List.{List, [], _∷_}
+use mathlib.Core.List.{List, [], _∷_, _++_}
 use lib.ListN.{length, take, drop}
 
 -- the number that some bytes spell
@@ -17,6 +17,15 @@ wordsN (suc n) l = word (take 8 l) ∷ wordsN n (drop 8 l)
 -- the words of l, without the bytes after the last whole one
 unfoldable pub words : List ℕ → List ℕ
 words l = wordsN (length l / 8) l
+
+-- the other way: the n bytes that spell v, and the bytes of some words
+unfoldable pub spell : ℕ → ℕ → List ℕ
+spell zero v = []
+spell (suc n) v = v % 256 ∷ spell n (v / 256)
+
+unfoldable pub bytesOf : List ℕ → List ℕ
+bytesOf [] = []
+bytesOf (w ∷ ws) = spell 8 w ++ bytesOf ws
 
 -- a pool that was l₀ and is l has kept its size; `small` is for a caller's sums of indices
 pub record Same (l₀ l : List ℕ) : Type 0 where

@@ -2,7 +2,8 @@
 use native.Mathlib.Omega.{arith}
 use lib.ListN.{length-set}
 use borrow.Author.Needs.{needs}
-use Rattle.words.proofs.Laws.{spell, words-written, same-next}
+use Rattle.words.specs.Words.{spell}
+use Rattle.words.proofs.Laws.{words-written, same-next}
 use Rattle.words.proofs.put.Statement.{statement}
 use Rattle.words.proofs.put.Tie as tie
 
