@@ -16,12 +16,12 @@ use Rattle.model.specs.declared.Operation.{Operation}
 use Rattle.model.specs.declared.Operation.the-variants as Op
 use Rattle.model.specs.Lists.{hit, times, upFrom, All, none, one, nil, cons}
 use Rattle.model.specs.Tree.{Index, depth, slotsOf, newIndex}
-use Rattle.model.specs.Plain.{Wish, always, Task, each, pairs, tasksFor}
+use Rattle.model.specs.Plain.{references, Wish, always, Task, each, pairs, tasksFor}
 use Rattle.model.specs.Change.{noCeiling}
 use Rattle.model.specs.Refuse.{Call, tasksOf, isRemove, isEach, descend, needed, refusal}
 use Rattle.model.specs.Sound.{InLimits, Sound, Fits, Ascending, Once}
 use Rattle.model.specs.Demands.{ReferenceFits, ActionFits, OperationFits, Lent}
-use Rattle.model.proofs.Lists.{by-test, or-left, or-right, all-map, hit-same, hit-other}
+use Rattle.model.proofs.Lists.{by-test, both-left, both-right, or-left, or-right, all-map, hit-same, hit-other}
 use Rattle.model.proofs.Plain.{Grants}
 use Rattle.model.proofs.Changes.{Rising, Removing}
 use Rattle.model.proofs.Batches.{Room, Headroom}
@@ -30,7 +30,7 @@ use Rattle.model.proofs.Batches.{Room, Headroom}
 
 pub record Admitted (st : Settings) (c : Call) (x : Index) : Type 0 where
   pub few : length (c .keys) ≤ st .order
-  pub matched : (isEach (c .operation) && not (eqb (length (c .references)) (length (c .keys)))) ≡ false
+  pub matched : (isEach (c .operation) && not (eqb (length (c .places)) (length (c .keys)) && eqb (length (c .sizes)) (length (c .keys)))) ≡ false
   pub rising : descend (c .keys) ≡ false
   pub room : ((eqb (length (c .keys)) 0 || isRemove (c .operation)) ≡ true)
       ⊎ ((depth x < 8) × (needed (length (c .keys)) (depth x) ≤ length (x .unused)))
@@ -39,7 +39,7 @@ pub admitted : (st : Settings) (c : Call) (x : Index) → refusal st c x ≡ 0 �
 admitted st c x =
     let n : ℕ = length (c .keys) in
     by-test (λ (r : ℕ). r ≡ 0 → Admitted st c x) (ltb (st .order) n) (λ e q. absurd (omega arith)) (λ a.
-    by-test (λ (r : ℕ). r ≡ 0 → Admitted st c x) (isEach (c .operation) && not (eqb (length (c .references)) n)) (λ e q. absurd (omega arith)) (λ b.
+    by-test (λ (r : ℕ). r ≡ 0 → Admitted st c x) (isEach (c .operation) && not (eqb (length (c .places)) n && eqb (length (c .sizes)) n)) (λ e q. absurd (omega arith)) (λ b.
     by-test (λ (r : ℕ). r ≡ 0 → Admitted st c x) (descend (c .keys)) (λ e q. absurd (omega arith)) (λ d.
     by-test (λ (r : ℕ). r ≡ 0 → Admitted st c x) (eqb n 0 || isRemove (c .operation))
     (λ e q. record { few = ltb-false _ _ a; matched = b; rising = d; room = inl e }) (λ f.
@@ -59,11 +59,26 @@ pairs-keys [] (k ∷ ks) e = absurd (omega arith)
 pairs-keys (r ∷ rs) [] e = absurd (omega arith)
 pairs-keys (r ∷ rs) (k ∷ ks) e = ap (k ∷_) (pairs-keys rs ks (omega arith))
 
-task-keys : (o : Operation) (rs : List Reference) (ks : List ℕ) → (isEach o && not (eqb (length rs) (length ks))) ≡ false → map (λ t. t .key) (tasksFor o rs ks) ≡ ks
-task-keys (Op.Set r) rs ks e = each-keys _ ks
-task-keys Op.SetEach rs ks e = pairs-keys rs ks (eqb-true (length rs) (length ks) (not-false (eqb (length rs) (length ks)) e))
-task-keys Op.Remove rs ks e = each-keys _ ks
-task-keys (Op.Compare x a) rs ks e = each-keys _ ks
+-- as many references as places and sizes, where those are as many
+references-count : (ps zs : List ℕ) → length ps ≡ length zs → length (references ps zs) ≡ length ps
+references-count [] [] e = refl
+references-count [] (z ∷ zs) e = refl
+references-count (p ∷ ps) [] e = absurd (omega arith)
+references-count (p ∷ ps) (z ∷ zs) e = ap suc (references-count ps zs (omega arith))
+
+matched-count : (ps zs ks : List ℕ) → not (eqb (length ps) (length ks) && eqb (length zs) (length ks)) ≡ false → length (references ps zs) ≡ length ks
+matched-count ps zs ks e =
+    let both : (eqb (length ps) (length ks) && eqb (length zs) (length ks)) ≡ true = not-false _ e in
+    let p : length ps ≡ length ks = eqb-true _ _ (both-left (eqb (length ps) (length ks)) (eqb (length zs) (length ks)) both) in
+    let z : length zs ≡ length ks = eqb-true _ _ (both-right (eqb (length ps) (length ks)) (eqb (length zs) (length ks)) both) in
+    references-count ps zs (p ∙ sym z) ∙ p
+
+task-keys : (o : Operation) (ps zs ks : List ℕ) → (isEach o && not (eqb (length ps) (length ks) && eqb (length zs) (length ks))) ≡ false
+    → map (λ t. t .key) (tasksFor o (references ps zs) ks) ≡ ks
+task-keys (Op.Set r) ps zs ks e = each-keys _ ks
+task-keys Op.SetEach ps zs ks e = pairs-keys (references ps zs) ks (matched-count ps zs ks e)
+task-keys Op.Remove ps zs ks e = each-keys _ ks
+task-keys (Op.Compare x a) ps zs ks e = each-keys _ ks
 
 pub all-keys : (P : ℕ → Type 0) (ts : List Task) → All P (map (λ t. t .key) ts) → All (λ t. P (t .key)) ts
 all-keys P [] none = none
@@ -124,6 +139,12 @@ task-grants Op.SetEach rs ks h hs g = pairs-grants hs g
 task-grants Op.Remove rs ks h hs g = each-grants _ (λ k q. tt) g
 task-grants (Op.Compare e a) rs ks h hs g = each-grants _ (λ k q. action-grants a k h q) g
 
+references-fit : {ps zs : List ℕ} → All (λ p. p < 2 ^ 64) ps → All (λ z. z < 2 ^ 32) zs → All ReferenceFits (references ps zs)
+references-fit none none = none
+references-fit none (one h hs) = none
+references-fit (one g gs) none = none
+references-fit (one {x = p} g gs) (one {x = z} h hs) = let fit : ReferenceFits (record { place = p; size = z }) = record { place = g; size = h } in one fit (references-fit gs hs)
+
 -- A CALL THAT IS NOT REFUSED
 
 pub record Passes (st : Settings) (c : Call) (x : Index) : Type 0 where
@@ -139,7 +160,7 @@ pub passes : (st : Settings) (c : Call) (x : Index) → Sound st x → Lent c �
 passes st c x s lent q =
     let a : Admitted st c x = admitted st c x q in
     let ts : List Task = tasksOf c in
-    let keys : map (λ t. t .key) ts ≡ c .keys = task-keys (c .operation) (c .references) (c .keys) (a .matched) in
+    let keys : map (λ t. t .key) ts ≡ c .keys = task-keys (c .operation) (c .places) (c .sizes) (c .keys) (a .matched) in
     let same : length ts ≡ length (c .keys) = sym (length-map ts (λ t. t .key)) ∙ ap length keys in
     let lows : All (λ k. k ≤ noCeiling) (c .keys) = all-map (λ k g. omega arith) (lent .keys) in
     record {
@@ -147,14 +168,14 @@ passes st c x s lent q =
       short = rw same (a .few);
       rising = rising-of ts (ap descend keys ∙ a .rising);
       low = all-keys (λ k. k ≤ noCeiling) ts (rw keys lows);
-      grants = task-grants (c .operation) (c .references) (c .keys) (lent .operation) (lent .references) (lent .keys);
+      grants = task-grants (c .operation) (references (c .places) (c .sizes)) (c .keys) (lent .operation) (references-fit (lent .places) (lent .sizes)) (lent .keys);
       room = by-room same (a .room);
       headroom = by-headroom same (a .room);
     }
   where
     removes : length (tasksOf c) ≡ length (c .keys) → (eqb (length (c .keys)) 0 ≡ true) ⊎ (isRemove (c .operation) ≡ true) → Removing (tasksOf c)
     removes e (inl z) = none-removes (tasksOf c) (e ∙ eqb-true _ _ z)
-    removes e (inr r) = removing (c .operation) (c .references) (c .keys) r
+    removes e (inr r) = removing (c .operation) (references (c .places) (c .sizes)) (c .keys) r
 
     by-room : length (tasksOf c) ≡ length (c .keys)
         → ((eqb (length (c .keys)) 0 || isRemove (c .operation)) ≡ true) ⊎ ((depth x < 8) × (needed (length (c .keys)) (depth x) ≤ length (x .unused)))

@@ -8,7 +8,7 @@ use Rattle.model.specs.declared.Entry.{Entry}
 use Rattle.model.specs.declared.Settings.{Settings}
 use Rattle.model.specs.Lists.{All, none, one}
 use Rattle.model.specs.Tree.{Index, Tree, entriesOf, adds, sumOf, newIndex}
-use Rattle.model.specs.Plain.{Task, plainList, plainCounts, noCounts}
+use Rattle.model.specs.Plain.{Task, references, plainList, plainCounts, noCounts}
 use Rattle.model.specs.Change.{batch}
 use Rattle.model.specs.Answer.{unless}
 use Rattle.model.specs.Look.{listing, found, dueIn}
@@ -67,7 +67,7 @@ one-batch st c x s lent q = batch-done st c x s lent q
 pub remove-takes-none : RemoveTakesNone
 remove-takes-none st c x s lent q e =
     let o = owes st c x s lent q in
-    let rem = removing (c .operation) (c .references) (c .keys) e in
+    let rem = removing (c .operation) (references (c .places) (c .sizes)) (c .keys) e in
     (o .grows rem, suc-le-suc (o .lower rem))
 
 -- ANY SEQUENCE

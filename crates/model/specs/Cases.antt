@@ -58,13 +58,13 @@ abbrev pub ref : ℕ → Reference
 ref k = record { place = 256 + k; size = 16 }
 
 abbrev pub set : List ℕ → Call
-set ks = record { operation = Op.SetEach; references = map ref ks; keys = ks }
+set ks = record { operation = Op.SetEach; places = map (λ k. 256 + k) ks; sizes = map (λ k. 16) ks; keys = ks }
 
 abbrev pub drop : List ℕ → Call
-drop ks = record { operation = Op.Remove; references = []; keys = ks }
+drop ks = record { operation = Op.Remove; places = []; sizes = []; keys = ks }
 
 abbrev pub absentRemove : Call
-absentRemove = record { operation = Op.Compare Expect.Absent Do.Remove; references = []; keys = 1 ∷ [] }
+absentRemove = record { operation = Op.Compare Expect.Absent Do.Remove; places = []; sizes = []; keys = 1 ∷ [] }
 
 abbrev pub after : Settings → List Call → Index → Index
 after st [] x = x
@@ -93,7 +93,7 @@ pub record Seen : Type 0 where
 
 -- key 2 marked as deleted: its entry is dead
 abbrev pub clear2 : Call
-clear2 = record { operation = Op.Set (record { place = 0; size = 5 }); references = []; keys = 2 ∷ [] }
+clear2 = record { operation = Op.Set (record { place = 0; size = 5 }); places = []; sizes = []; keys = 2 ∷ [] }
 
 -- a scan between two bounds, with room for so many
 abbrev pub between : Direction → Bound → Bound → ℕ → Index → Seen
@@ -159,7 +159,7 @@ cases =
     ∷ case (List (List ℕ)) (told (answer desk (set (1 ∷ 2 ∷ 3 ∷ 4 ∷ [])) (newIndex 16)) ∷ told (answer desk (set (1 ∷ 2 ∷ 3 ∷ 4 ∷ 5 ∷ [])) (newIndex 16)) ∷ [])
     ((4 ∷ 0 ∷ 0 ∷ 0 ∷ []) ∷ (3 ∷ []) ∷ [])
     ∷ case (List Entry × List ℕ)
-    (let a = answer desk (record { operation = Op.SetEach; references = ref 1 ∷ ref 2 ∷ []; keys = 7 ∷ 7 ∷ [] }) (newIndex 16) in
+    (let a = answer desk (record { operation = Op.SetEach; places = 257 ∷ 258 ∷ []; sizes = 16 ∷ 16 ∷ []; keys = 7 ∷ 7 ∷ [] }) (newIndex 16) in
     (getAll (7 ∷ []) 9 (indexAfter (newIndex 16) a) .written, told a))
     (entryFor 7 (ref 2) ∷ [], 1 ∷ 1 ∷ 0 ∷ 0 ∷ [])
     ∷ case (List Seen) (between Up (Excluded 3) (Included 5) 9 P ∷ between Down (Excluded 3) (Included 5) 9 P ∷ [])

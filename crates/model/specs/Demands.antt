@@ -43,7 +43,8 @@ OperationFits (Op.Compare e a) = ActionFits a
 
 pub record Lent (c : Call) : Type 0 where
   pub operation : OperationFits (c .operation)
-  pub references : All ReferenceFits (c .references)
+  pub places : All (λ p. p < 2 ^ 64) (c .places)
+  pub sizes : All (λ z. z < 2 ^ 32) (c .sizes)
   pub keys : All (λ k. k < 2 ^ 64) (c .keys)
 
 -- ONE BATCH that is not refused does to the tree what its keys, one at a time, do to the plain list; its counts are the plain list's; no task

@@ -35,6 +35,13 @@ pairs [] (k ∷ ks) = []
 pairs (r ∷ rs) [] = []
 pairs (r ∷ rs) (k ∷ ks) = record { key = k; wish = always (Do.Set r) } ∷ pairs rs ks
 
+-- the references that some places and sizes make
+abbrev pub references : List ℕ → List ℕ → List Reference
+references [] [] = []
+references [] (z ∷ zs) = []
+references (p ∷ ps) [] = []
+references (p ∷ ps) (z ∷ zs) = record { place = p; size = z } ∷ references ps zs
+
 -- the tasks of an operation, with the references of a SetEach and the keys
 abbrev pub tasksFor : Operation → List Reference → List ℕ → List Task
 tasksFor (Op.Set r) rs ks = each (always (Do.Set r)) ks

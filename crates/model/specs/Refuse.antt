@@ -4,24 +4,24 @@ use mathlib.Core.List.{List, [], _∷_}
 use Prim.Native.Nat.{ℕ, _+_, _*_, max}
 use lib.ListN.{length}
 use lib.Dec.{leb, ltb, eqb}
-use Rattle.model.specs.declared.Reference.{Reference}
 use Rattle.model.specs.declared.Settings.{Settings}
 use Rattle.model.specs.declared.Operation.{Operation}
 use Rattle.model.specs.declared.Operation.the-variants as Op
 use Rattle.model.specs.Tree.{Index, depth}
-use Rattle.model.specs.Plain.{Task, tasksFor}
+use Rattle.model.specs.Plain.{Task, references, tasksFor}
 use Rattle.model.specs.Change.{Batched, batch}
 use Rattle.model.specs.Answer.{Answer, refused, done, unless}
 use Rattle.model.specs.Look.{Listing, getAll}
 
--- an operation, the references that are lent with it, which only SetEach reads, and the keys
+-- an operation, the references that are lent with it, their places and their sizes, which only SetEach reads, and the keys
 pub record Call : Type 0 where
   pub operation : Operation
-  pub references : List Reference
+  pub places : List ℕ
+  pub sizes : List ℕ
   pub keys : List ℕ
 
 abbrev pub tasksOf : Call → List Task
-tasksOf c = tasksFor (c .operation) (c .references) (c .keys)
+tasksOf c = tasksFor (c .operation) (references (c .places) (c .sizes)) (c .keys)
 
 abbrev pub isRemove : Operation → Bool
 isRemove (Op.Set r) = false
@@ -50,7 +50,7 @@ abbrev pub refusal : Settings → Call → Index → ℕ
 refusal st c x =
     let n = length (c .keys) in
     cond (ltb (st .order) n) 3
-    (cond (isEach (c .operation) && not (eqb (length (c .references)) n)) 4
+    (cond (isEach (c .operation) && not (eqb (length (c .places)) n && eqb (length (c .sizes)) n)) 4
     (cond (descend (c .keys)) 5
     (cond (eqb n 0 || isRemove (c .operation)) 0
     (cond (leb 8 (depth x)) 6
