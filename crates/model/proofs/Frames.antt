@@ -13,10 +13,11 @@ use lib.Seq.{take-all, take-at, drop-at, drop-drop}
 use borrow.Author.Tests.{lt-ltb, le-ltb, le-leb, lt-leb, ltb-true, ltb-false, leb-true, eqb-true}
 use Rattle.model.specs.declared.Entry.{Entry}
 use Rattle.model.specs.Lists.{concat, All, none, one}
-use Rattle.model.specs.Answer.{Answer, refused, done, unless}
+use Rattle.model.specs.Answer.{Answer, done}
 use Rattle.model.specs.Frame.{Branch, Frame, leaf, interior, keysOf, bytes, leafBytes, branchBytes, frameBytes, digit, hex, lineOf, entriesRefusal}
 use Rattle.model.specs.ReadFrame.{valueOf, isDigit, onto, unhex, spelt, field, leafEntry, branch, parts, leafFrame, interiorFrame, readRest, readBytes, readLine}
 use Rattle.model.specs.Sound.{Fits, BranchFits, FrameFits}
+use Rattle.model.proofs.Answers.{unless-done, refused-done}
 use Rattle.model.proofs.Lists.{by-test, both-left, both-right, all-append, all-take, all-drop}
 
 -- BYTES
@@ -301,15 +302,6 @@ branch-coding =
         size = field-small 20 8 h (omega arith);
       };
     }
-
--- WHAT AN ANSWER TELLS: what is done was not refused
-
-pub refused-done : {A : Type 0} (n : ℕ) (a : A) → refused n ≡ done a → ⊥
-refused-done n a e = let z : _≡_ {A = ℕ} 0 1 = cc in omega arith
-
-pub unless-done : {A : Type 0} (n : ℕ) (a b : A) → unless n a ≡ done b → (n ≡ 0) × (a ≡ b)
-unless-done zero a b e = (refl, cc)
-unless-done (suc n) a b e = absurd (refused-done (suc n) b e)
 
 -- FRAMES
 

@@ -176,6 +176,17 @@ unfolding words wordsN spell
 words-spell v h = ap (λ (w : ℕ). w ∷ []) (word-spell 8 v h)
 
 -- the words are got back from the bytes
+spell-bytes : (n v : ℕ) (rest : List ℕ) → Bytes rest → Bytes (spell n v ++ rest)
+unfolding spell
+spell-bytes zero v rest h i = h i
+spell-bytes (suc n) v rest h zero = omega arith
+spell-bytes (suc n) v rest h (suc i) = spell-bytes n (v / 256) rest h i
+
+pub bytesOf-bytes : (ws : List ℕ) → Bytes (bytesOf ws)
+unfolding bytesOf
+bytesOf-bytes [] i = omega arith
+bytesOf-bytes (w ∷ ws) i = spell-bytes 8 w (bytesOf ws) (bytesOf-bytes ws) i
+
 pub words-bytesOf : (ws : List ℕ) → ((i : ℕ) → getD ws i 0 < 2 ^ 64) → words (bytesOf ws) ≡ ws
 unfolding bytesOf
 words-bytesOf [] h = words-nil

@@ -1,0 +1,230 @@
+-- From slots to nodes: what is read of a slot of a pool in order is its node's, and a slot that is written as a node is written is that node.
+-- Assumes nothing.
+use mathlib.Core.Path.{_≡_, refl, sym, ap, _∙_}
+use mathlib.Core.Logic.{_≢_}
+use Prim.Native.Nat.{ℕ, _+_, _-_, _*_, _≤_, _<_}
+use native.Mathlib.Decide.{ℕ-discrete}
+use native.Mathlib.Omega.{arith}
+use mathlib.Core.List.{List, [], _∷_, _++_, map, append-nil}
+use lib.ListN.{length, take, drop, getD, set, replicate, length-map, length-set, length-drop, List·getD-map, List·getD-append}
+use lib.Seq.{getD-set-same, getD-set-other, set-set, take-length, drop-length, take-all}
+use Rattle.model.specs.declared.Settings.{Settings}
+use Rattle.slots.specs.declared.Row.{Row}
+use Rattle.slots.specs.Over.{over, part}
+use Rattle.slots.specs.Slots.{blank, chunks, width, Raw, rawOf, slots, rawAt, putCells, putHead, Wrote}
+use Rattle.slots.specs.Nodes.{Node, unused, nodeOf, nodes, nth, rowsAt, putRows, putKind, pad, rawFor, Canon, Held, Now, putIn, without, put2, withRows}
+use Rattle.slots.proofs.Over.{map-set}
+use Rattle.slots.proofs.Chunks.{length-chunks}
+use Rattle.slots.proofs.Pads.{take-pad, part-pad, length-putIn, length-without, opening, opened, closing, closed, replaced}
+
+-- ---- slots and nodes
+
+pub length-slots : (st : Settings) (W : List ℕ) → length (slots st W) ≡ st .nodes
+unfolding slots
+length-slots st W =
+    let cs = chunks (width (st .order)) (st .nodes) (drop 4 W) in
+    length-map cs (rawOf (st .order)) ∙ length-chunks (width (st .order)) (st .nodes) (drop 4 W)
+
+pub length-nodes : (st : Settings) (W : List ℕ) → length (nodes st W) ≡ st .nodes
+unfolding nodes
+length-nodes st W = length-map (slots st W) nodeOf ∙ length-slots st W
+
+-- slot s holds node s
+pub node-raw : (st : Settings) (W : List ℕ) (s : ℕ) → nodeOf (rawAt st W s) ≡ nth (nodes st W) s
+unfolding nodes nodeOf rawAt rawOf
+node-raw st W s = sym (List·getD-map nodeOf (slots st W) s (rawOf (st .order) []))
+
+-- and nothing else
+pub raw-node : (st : Settings) (W : List ℕ) (s : ℕ) → Held st W → rawAt st W s ≡ rawFor (st .order) (nth (nodes st W) s)
+raw-node st W s h = h .each s .same ∙ ap (rawFor (st .order)) (node-raw st W s)
+
+pub fits-node : (st : Settings) (W : List ℕ) (s : ℕ) → Held st W → length (rowsAt st W s) ≤ 2 * st .order
+fits-node st W s h = rw (node-raw st W s) at (h .each s .fits)
+
+-- the slot of a node holds it
+pub node-back : (order : ℕ) (n : Node) → nodeOf (rawFor order n) ≡ n
+unfolding nodeOf rawFor
+node-back order n =
+    let l = n .rows in
+    let e : take (length l) (pad (2 * order) l) ≡ l = take-pad (2 * order) (length l) l (omega arith) ∙ take-length l in
+    λ j. record { kind = n .kind; rows = e j }
+
+pub canon-for : (order : ℕ) (n : Node) → length (n .rows) ≤ 2 * order → Canon order (rawFor order n)
+canon-for order n h = record { fits = rw (node-back order n) h; same = ap (rawFor order) (sym (node-back order n)) }
+
+-- ---- what is read
+
+pub kind-node : (st : Settings) (W : List ℕ) (s : ℕ) → rawAt st W s .kind ≡ nth (nodes st W) s .kind
+unfolding nodeOf
+kind-node st W s = ap (λ (n : Node). n .kind) (node-raw st W s)
+
+pub count-node : (st : Settings) (W : List ℕ) (s : ℕ) → Held st W → rawAt st W s .count ≡ length (rowsAt st W s)
+unfolding rawFor
+count-node st W s h = ap (λ (r : Raw). r .count) (raw-node st W s h)
+
+pub cells-node : (st : Settings) (W : List ℕ) (s : ℕ) → Held st W → rawAt st W s .cells ≡ pad (2 * st .order) (rowsAt st W s)
+unfolding rawFor
+cells-node st W s h = ap (λ (r : Raw). r .cells) (raw-node st W s h)
+
+pub row-node : (st : Settings) (W : List ℕ) (s i : ℕ) → Held st W → i < length (rowsAt st W s)
+    → getD (rawAt st W s .cells) i blank ≡ getD (rowsAt st W s) i blank
+unfolding pad
+row-node st W s i h g =
+    let l = rowsAt st W s in
+    ap (λ (r : List Row). getD r i blank) (cells-node st W s h) ∙ List·getD-append l (replicate (2 * st .order - length l) blank) blank i g
+
+pub part-node : (st : Settings) (W : List ℕ) (s from a : ℕ) → Held st W → from + a ≤ length (rowsAt st W s)
+    → part (rawAt st W s .cells) from a ≡ part (rowsAt st W s) from a
+part-node st W s from a h g =
+    ap (λ (l : List Row). part l from a) (cells-node st W s h) ∙ part-pad (2 * st .order) from a (rowsAt st W s) g
+
+-- ---- a slot written
+
+module _ (st : Settings) (W₀ W : List ℕ) (s : ℕ) (r : Raw) (e : slots st W ≡ set (slots st W₀) s r) where
+  raw-same : s < st .nodes → rawAt st W s ≡ r
+  unfolding rawAt
+  raw-same h =
+      let none = rawOf (st .order) [] in
+      ap (λ (l : List Raw). getD l s none) e ∙ getD-set-same (slots st W₀) s r none (omega (arith, length-slots st W₀))
+
+  pub raw-other : (t : ℕ) → t ≢ s → rawAt st W t ≡ rawAt st W₀ t
+  unfolding rawAt
+  raw-other t ne =
+      let none = rawOf (st .order) [] in
+      ap (λ (l : List Raw). getD l t none) e ∙ getD-set-other (slots st W₀) s t r none ne
+
+-- a slot that is written twice is written once
+pub again : (f : Raw → Raw) (st : Settings) (W₀ W₁ W₂ : List ℕ) (s : ℕ) (r : Raw) → s < st .nodes → Wrote st W₀ W₁ (set (slots st W₀) s r)
+    → Wrote st W₁ W₂ (set (slots st W₁) s (f (rawAt st W₁ s))) → Wrote st W₀ W₂ (set (slots st W₀) s (f r))
+again f st W₀ W₁ W₂ s r h a b = record {
+  shape = b .shape;
+  is = b .is ∙ ap (λ (q : Raw). set (slots st W₁) s (f q)) (raw-same st W₀ W₁ s r (a .is) h)
+      ∙ ap (λ (l : List Raw). set l s (f r)) (a .is) ∙ set-set (slots st W₀) s r (f r);
+  header = b .header ∙ a .header;
+}
+
+each-again : (st : Settings) (W₀ W : List ℕ) (s : ℕ) (n : Node) → s < st .nodes → Held st W₀
+    → slots st W ≡ set (slots st W₀) s (rawFor (st .order) n) → length (n .rows) ≤ 2 * st .order → (t : ℕ) → Dec (t ≡ s) → Canon (st .order) (rawAt st W t)
+each-again st W₀ W s n h held e g t (yes q) =
+    rw (ap (rawAt st W) q ∙ raw-same st W₀ W s (rawFor (st .order) n) e h) (canon-for (st .order) n g)
+each-again st W₀ W s n h held e g t (no q) = rw (raw-other st W₀ W s (rawFor (st .order) n) e t q) (held .each t)
+
+-- a slot that is written as a node is written is that node
+pub settle : (st : Settings) (W₀ W : List ℕ) (s : ℕ) (r : Raw) (n : Node) → s < st .nodes → Held st W₀ → Wrote st W₀ W (set (slots st W₀) s r)
+    → r ≡ rawFor (st .order) n → length (n .rows) ≤ 2 * st .order → Now st W₀ W (set (nodes st W₀) s n)
+unfolding nodes
+settle st W₀ W s r n h held w q g =
+    let raw = rawFor (st .order) n in
+    let e : slots st W ≡ set (slots st W₀) s (rawFor (st .order) n) = w .is ∙ ap (set (slots st W₀) s) q in
+    record {
+      held = record { shape = w .shape; each = λ t. each-again st W₀ W s n h held e g t (ℕ-discrete t s) };
+      is = ap (map nodeOf) e ∙ map-set nodeOf (slots st W₀) s raw ∙ ap (set (map nodeOf (slots st W₀)) s) (node-back (st .order) n);
+      header = w .header;
+    }
+
+-- ---- what is written: k and n are what node s has for its kind and its number of rows
+
+-- the slots with all of slot s written
+abbrev rewritten : Settings → List ℕ → ℕ → ℕ → ℕ → List Row → List Raw
+rewritten st W s k c l = set (slots st W) s (record { kind = k; count = c; cells = l })
+
+module _ (st : Settings) (W₀ W : List ℕ) (s k n : ℕ) (h : s < st .nodes) (held : Held st W₀) (ek : k ≡ nth (nodes st W₀) s .kind) (en : n ≡ length (rowsAt st W₀ s)) where
+  rows-now : (cells : List Row) (c : ℕ) (l : List Row) → Wrote st W₀ W (rewritten st W₀ s k c cells) → cells ≡ pad (2 * st .order) l → c ≡ length l
+      → c ≤ 2 * st .order → Now st W₀ W (putRows (nodes st W₀) s l)
+  unfolding putRows rawFor
+  rows-now cells c l w e ec g =
+      settle st W₀ W s (record { kind = k; count = c; cells = cells }) (record { kind = nth (nodes st W₀) s .kind; rows = l }) h held w
+      (λ j. record { kind = ek j; count = ec j; cells = e j }) (omega arith)
+
+  -- a gap is opened and filled
+  pub opened-now : (i a : ℕ) (new : List Row) → i ≤ n → length new ≡ a → n + a ≤ 2 * st .order
+      → Wrote st W₀ W (rewritten st W₀ s k (n + a) (opening n (rawAt st W₀ s .cells) i a new)) → Now st W₀ W (putRows (nodes st W₀) s (putIn (rowsAt st W₀ s) i new))
+  opened-now i a new hi ea g w =
+      let l = rowsAt st W₀ s in
+      rows-now (opening n (rawAt st W₀ s .cells) i a new) (n + a) (putIn l i new) w
+      (ap (λ (r : List Row). opening n r i a new) (cells-node st W₀ s held) ∙ opened (2 * st .order) i a n l new en hi ea g)
+      (omega (arith, length-putIn l i new (omega arith))) g
+
+  -- rows are taken out
+  pub closed-now : (i a : ℕ) → i + a ≤ n
+      → Wrote st W₀ W (rewritten st W₀ s k (n - a) (closing n (rawAt st W₀ s .cells) i a)) → Now st W₀ W (putRows (nodes st W₀) s (without (rowsAt st W₀ s) i a))
+  closed-now i a hi w =
+      let l = rowsAt st W₀ s in
+      let fits : length (rowsAt st W₀ s) ≤ 2 * st .order = fits-node st W₀ s held in
+      rows-now (closing n (rawAt st W₀ s .cells) i a) (n - a) (without l i a) w
+      (ap (λ (r : List Row). closing n r i a) (cells-node st W₀ s held) ∙ closed (2 * st .order) i a n l en hi (omega arith))
+      (omega (arith, length-without l i a (omega arith))) (omega arith)
+
+  -- the kind is set
+  pub kind-now : (k′ : ℕ) → Wrote st W₀ W (putHead st W₀ s k′ n) → Now st W₀ W (putKind (nodes st W₀) s k′)
+  unfolding putKind rawFor
+  kind-now k′ w =
+      settle st W₀ W s (record { kind = k′; count = n; cells = rawAt st W₀ s .cells }) (record { kind = k′; rows = rowsAt st W₀ s }) h held w
+      (λ j. record { kind = k′; count = en j; cells = cells-node st W₀ s held j }) (fits-node st W₀ s held)
+
+  -- a row is set
+  pub row-now : (i : ℕ) (r : Row) → i < n → Wrote st W₀ W (putCells st W₀ s (over (rawAt st W₀ s .cells) i 1 (r ∷ [])))
+      → Now st W₀ W (putRows (nodes st W₀) s (set (rowsAt st W₀ s) i r))
+  unfolding putRows rawFor
+  row-now i r hi w =
+      let q = rawAt st W₀ s in
+      let l = rowsAt st W₀ s in
+      let fits : length (rowsAt st W₀ s) ≤ 2 * st .order = fits-node st W₀ s held in
+      let size : length (set (rowsAt st W₀ s) i r) ≡ length (rowsAt st W₀ s) = length-set l i r in
+      let count : q .count ≡ length (set l i r) = count-node st W₀ s held ∙ sym size in
+      let cells : over (q .cells) i 1 (r ∷ []) ≡ pad (2 * st .order) (set l i r) =
+      ap (λ (m : List Row). over m i 1 (r ∷ [])) (cells-node st W₀ s held) ∙ replaced (2 * st .order) i l r (omega arith) fits in
+      settle st W₀ W s (record { kind = q .kind; count = q .count; cells = over (q .cells) i 1 (r ∷ []) })
+      (record { kind = nth (nodes st W₀) s .kind; rows = set l i r }) h held w
+      (λ j. record { kind = kind-node st W₀ s j; count = count j; cells = cells j }) (omega arith)
+
+-- ---- a change of nodes, and another
+
+pub then : (f : List Node → List Node) (st : Settings) (W₀ W₁ W₂ : List ℕ) (ns : List Node) → Now st W₀ W₁ ns → Now st W₁ W₂ (f (nodes st W₁))
+    → Now st W₀ W₂ (f ns)
+then f st W₀ W₁ W₂ ns a b = record { held = b .held; is = b .is ∙ ap f (a .is); header = b .header ∙ a .header }
+
+pub become : (st : Settings) (W₀ W : List ℕ) (ns ns′ : List Node) → Now st W₀ W ns → ns ≡ ns′ → Now st W₀ W ns′
+become st W₀ W ns ns′ a e = record { held = a .held; is = a .is ∙ e; header = a .header }
+
+-- another node is as it was, after a change of rows or of a kind
+pub nth-rows : (ns : List Node) (s t : ℕ) (l : List Row) → s ≢ t → nth (putRows ns t l) s ≡ nth ns s
+unfolding putRows
+nth-rows ns s t l ne = getD-set-other ns t s (withRows (nth ns t) l) unused ne
+
+pub nth-kind : (ns : List Node) (s t k : ℕ) → s ≢ t → nth (putKind ns t k) s ≡ nth ns s
+unfolding putKind
+nth-kind ns s t k ne = getD-set-other ns t s (record { kind = k; rows = nth ns t .rows }) unused ne
+
+pub nth-same : (ns : List Node) (s : ℕ) (n : Node) → s < length ns → nth (set ns s n) s ≡ n
+nth-same ns s n h = getD-set-same ns s n unused h
+
+-- the rows of a node change, and those of another after it
+pub rows-rows : (f : List Row → List Row) (ns : List Node) (s t : ℕ) (l l′ m : List Row) → s ≢ t → l ≡ l′ → f (nth ns s .rows) ≡ m
+    → putRows (putRows ns t l) s (f (nth (putRows ns t l) s .rows)) ≡ put2 ns t (withRows (nth ns t) l′) s (withRows (nth ns s) m)
+unfolding putRows
+rows-rows f ns s t l l′ m ne el em =
+    ap (λ (n : Node). set (putRows ns t l) s (withRows n (f (n .rows)))) (nth-rows ns s t l ne)
+    ∙ ap (λ (r : List Row). put2 ns t (withRows (nth ns t) r) s (withRows (nth ns s) (f (nth ns s .rows)))) el
+    ∙ ap (λ (r : List Row). put2 ns t (withRows (nth ns t) l′) s (withRows (nth ns s) r)) em
+
+-- ---- rows put in and taken out at the ends
+
+pub at-end : (l new : List Row) (n : ℕ) → n ≡ length l → putIn l n new ≡ l ++ new
+at-end l new n e = rw (e, take-length l, drop-length l, append-nil (l ++ new))
+
+pub first-out : (l : List Row) (a : ℕ) → without l 0 a ≡ drop a l
+first-out l a =
+    let z : 0 + a ≡ a = omega arith in
+    rw z
+
+pub last-out : (l : List Row) (k a : ℕ) → k + a ≡ length l → without l k a ≡ take k l
+last-out l k a e = rw (e, drop-length l, append-nil (take k l))
+
+pub first-part : (l : List Row) (a : ℕ) → part l 0 a ≡ take a l
+unfolding part
+first-part l a = refl
+
+pub last-part : (l : List Row) (k a : ℕ) → k + a ≡ length l → part l k a ≡ drop k l
+unfolding part
+last-part l k a e = take-all a (drop k l) (omega (arith, length-drop k l))

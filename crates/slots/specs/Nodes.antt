@@ -1,0 +1,169 @@
+-- The slots of a pool as nodes, a kind and a list of rows each; and a pool in order (`Held`), whose slots hold their node and zeros. Assumes nothing.
+use Prim.Native.Nat.{ℕ, _+_, _-_, _*_, _/_, _≤_, _<_}
+use mathlib.Core.Path.{_≡_}
+use mathlib.Core.Logic.{_≢_}
+use mathlib.Core.List.{List, [], _++_, map}
+use lib.ListN.{length, take, drop, getD, set, replicate}
+use Rattle.model.specs.declared.Settings.{Settings}
+use Rattle.slots.specs.declared.Row.{Row}
+use Rattle.slots.specs.Slots.{blank, Raw, slots, rawAt, Shape}
+
+-- ---- nodes
+
+-- kind 0 is an unused slot, 1 a leaf, 2 an interior node
+pub record Node : Type 0 where
+  pub kind : ℕ
+  pub rows : List Row
+
+-- an unused slot
+abbrev pub unused : Node
+unused = record { kind = 0; rows = [] }
+
+-- the node in a slot: the rows past the count are no rows of it
+unfoldable pub nodeOf : Raw → Node
+nodeOf r = record { kind = r .kind; rows = take (r .count) (r .cells) }
+
+-- the nodes of a pool's words
+unfoldable pub nodes : Settings → List ℕ → List Node
+nodes st W = map nodeOf (slots st W)
+
+-- node s of some nodes; an unused one past the end
+abbrev pub nth : List Node → ℕ → Node
+nth ns s = getD ns s unused
+
+-- the rows of node s of a pool's words
+abbrev pub rowsAt : Settings → List ℕ → ℕ → List Row
+rowsAt st W s = nth (nodes st W) s .rows
+
+-- ---- a pool in order
+
+-- rows, and blank rows after them, m in all
+unfoldable pub pad : ℕ → List Row → List Row
+pad m l = l ++ replicate (m - length l) blank
+
+-- the slot that holds a node
+unfoldable pub rawFor : ℕ → Node → Raw
+rawFor order n = record { kind = n .kind; count = length (n .rows); cells = pad (2 * order) (n .rows) }
+
+-- a slot holds its node and nothing else
+pub record Canon (order : ℕ) (r : Raw) : Type 0 where
+  pub fits : length (nodeOf r .rows) ≤ 2 * order
+  pub same : r ≡ rawFor order (nodeOf r)
+
+-- every slot of a pool does
+pub record Held (st : Settings) (W : List ℕ) : Type 0 where
+  pub shape : Shape st W
+  pub each : (s : ℕ) → Canon (st .order) (rawAt st W s)
+
+-- ---- one node changed
+
+-- the nodes with other rows in node s
+unfoldable pub putRows : List Node → ℕ → List Row → List Node
+putRows ns s l = set ns s (record { kind = nth ns s .kind; rows = l })
+
+-- the nodes with another kind of node s
+unfoldable pub putKind : List Node → ℕ → ℕ → List Node
+putKind ns s k = set ns s (record { kind = k; rows = nth ns s .rows })
+
+-- l with `new` put in at place i
+abbrev pub putIn : List Row → ℕ → List Row → List Row
+putIn l i new = take i l ++ new ++ drop i l
+
+-- l without the n rows from i on
+abbrev pub without : List Row → ℕ → ℕ → List Row
+without l i n = take i l ++ drop (i + n) l
+
+-- ---- two nodes changed
+
+-- the nodes with a for node t, and then b for node s
+abbrev pub put2 : List Node → ℕ → Node → ℕ → Node → List Node
+put2 ns t a s b = set (set ns t a) s b
+
+-- a node with other rows
+abbrev pub withRows : Node → List Row → Node
+withRows n l = record { kind = n .kind; rows = l }
+
+-- how many rows the lower node keeps where l is split
+abbrev pub lower : List Row → ℕ
+lower l = (length l + 1) / 2
+
+-- the upper rows of node s go to `new`, which gets the kind of s
+abbrev pub splitNodes : List Node → ℕ → ℕ → List Node
+splitNodes ns s new =
+    let n = nth ns s in
+    put2 ns new (withRows n (drop (lower (n .rows)) (n .rows))) s (withRows n (take (lower (n .rows)) (n .rows)))
+
+-- the first a rows of node s go to the end of node `prev`
+abbrev pub backNodes : List Node → ℕ → ℕ → ℕ → List Node
+backNodes ns prev s a =
+    put2 ns prev (withRows (nth ns prev) (nth ns prev .rows ++ take a (nth ns s .rows))) s (withRows (nth ns s) (drop a (nth ns s .rows)))
+
+-- the last a rows of node s go to the front of node `next`
+abbrev pub forwardNodes : List Node → ℕ → ℕ → ℕ → List Node
+forwardNodes ns s next a =
+    let l = nth ns s .rows in
+    put2 ns next (withRows (nth ns next) (drop (length l - a) l ++ nth ns next .rows)) s (withRows (nth ns s) (take (length l - a) l))
+
+-- the rows of node `high` go to the end of node `low`, and `high` is unused
+abbrev pub joinNodes : List Node → ℕ → ℕ → List Node
+joinNodes ns low high = put2 ns low (withRows (nth ns low) (nth ns low .rows ++ nth ns high .rows)) high unused
+
+-- ---- what contracts require
+
+-- slot s is one of the pool's
+pub record At (st : Settings) (W : List ℕ) (s : ℕ) : Type 0 where
+  pub held : Held st W
+  pub slot : s < st .nodes
+
+-- n rows from i on are rows of node s
+pub record Rows (st : Settings) (W : List ℕ) (s i n : ℕ) : Type 0 where
+  pub held : Held st W
+  pub slot : s < st .nodes
+  pub within : i + n ≤ length (rowsAt st W s)
+
+-- n more rows fit at place i of node s
+pub record Room (st : Settings) (W : List ℕ) (s i n : ℕ) : Type 0 where
+  pub held : Held st W
+  pub slot : s < st .nodes
+  pub within : i ≤ length (rowsAt st W s)
+  pub room : length (rowsAt st W s) + n ≤ 2 * st .order
+
+-- n rows of node s from row `from` on can go to place i of node t
+pub record Pass (st : Settings) (W : List ℕ) (s from t i n : ℕ) : Type 0 where
+  pub held : Held st W
+  pub slot : s < st .nodes
+  pub slot2 : t < st .nodes
+  pub apart : s ≢ t
+  pub has : from + n ≤ length (rowsAt st W s)
+  pub within : i ≤ length (rowsAt st W t)
+  pub room : length (rowsAt st W t) + n ≤ 2 * st .order
+
+-- node s can be split into an unused slot
+pub record Split (st : Settings) (W : List ℕ) (s new : ℕ) : Type 0 where
+  pub held : Held st W
+  pub slot : s < st .nodes
+  pub slot2 : new < st .nodes
+  pub apart : s ≢ new
+  pub free : nth (nodes st W) new ≡ unused
+
+-- a rows of node s fit into node t
+pub record Give (st : Settings) (W : List ℕ) (s t a : ℕ) : Type 0 where
+  pub held : Held st W
+  pub slot : s < st .nodes
+  pub slot2 : t < st .nodes
+  pub apart : s ≢ t
+  pub has : a ≤ length (rowsAt st W s)
+  pub room : length (rowsAt st W t) + a ≤ 2 * st .order
+
+-- ---- what contracts ensure
+
+-- r is the number of rows of node s
+pub record Counted (st : Settings) (W : List ℕ) (s r : ℕ) : Type 0 where
+  pub is : r ≡ length (rowsAt st W s)
+  pub fits : r ≤ 2 * st .order
+
+-- W is W₀ with the nodes `ns`
+pub record Now (st : Settings) (W₀ W : List ℕ) (ns : List Node) : Type 0 where
+  pub held : Held st W
+  pub is : nodes st W ≡ ns
+  pub header : take 4 W ≡ take 4 W₀

@@ -1,0 +1,54 @@
+-- A sound index is small: at most 2 ^ 19 entries, and every slot of it is one of the pool's, taken once. Assumes nothing.
+use mathlib.Core.Path.{_≡_, _∙_}
+use Prim.Native.Nat.{ℕ, zero, suc, _+_, _≤_, _<_}
+use native.Mathlib.Omega.{arith}
+use native.Mathlib.Decide.{decLt}
+use native.Mathlib.Nat.{le-trans, mul-le-mul}
+use lib.ListN.{length}
+use borrow.Author.Tests.{lt-ltb, le-ltb}
+use Rattle.model.specs.declared.Settings.{Settings}
+use Rattle.model.specs.Lists.{times, All}
+use Rattle.model.specs.Tree.{Tree, Index, len, entriesOf, slotsOf}
+use Rattle.model.specs.Sound.{Rooted, Sound}
+use Rattle.model.proofs.Trees.{entries-few, once-count}
+use Rattle.tree.specs.Bridge.{Apart}
+use Rattle.tree.proofs.Counts.{all-times}
+
+-- the root has at most order items
+pub root-few : (st : Settings) (h : ℕ) (n : Tree h) → Rooted st h n → len n ≤ st .order
+root-few st zero n r = r
+root-few st (suc h) n r = r .1
+
+pub used-few : (st : Settings) (x : Index) → Sound st x → length (slotsOf x) ≤ 16384
+used-few st x s = omega (arith, once-count (st .nodes) (slotsOf x) (x .unused) (s .once), s .settings .bounded)
+
+pub entries-most : (st : Settings) (x : Index) → Sound st x → length (entriesOf x) ≤ 524288
+entries-most st x s =
+    le-trans (entries-few st (x .height) (x .root) (root-few st (x .height) (x .root) (s .rooted)) (s .whole)) (mul-le-mul (s .settings .narrow) (used-few st x s))
+
+-- SLOTS
+
+module _ (st : Settings) (x : Index) (s : Sound st x) where
+  -- a slot below N is used or unused, and not both
+  pub slot-inside : (t : ℕ) → t < st .nodes → times t (slotsOf x) + times t (x .unused) ≡ 1
+  slot-inside t h = s .once t ∙ rw (lt-ltb t (st .nodes) h)
+
+  pub slot-outside : (t : ℕ) → st .nodes ≤ t → times t (slotsOf x) + times t (x .unused) ≡ 0
+  slot-outside t h = s .once t ∙ rw (le-ltb t (st .nodes) h)
+
+  pub slot-low : (t : ℕ) → 0 < times t (slotsOf x) → t < st .nodes
+  slot-low t h = by (decLt t (st .nodes))
+    where
+      by : Dec (t < st .nodes) → t < st .nodes
+      by (yes g) = g
+      by (no g) = let le : st .nodes ≤ t = omega arith in absurd (omega (arith, slot-outside t le))
+
+  pub slots-low : All (λ t. t < st .nodes) (slotsOf x)
+  slots-low = all-times (λ t. t < st .nodes) (slotsOf x) slot-low
+
+  pub slots-apart : Apart (x .height) (x .root)
+  slots-apart t = by (decLt t (st .nodes))
+    where
+      by : Dec (t < st .nodes) → times t (slotsOf x) ≤ 1
+      by (yes g) = omega (arith, slot-inside t g)
+      by (no g) = let le : st .nodes ≤ t = omega arith in omega (arith, slot-outside t le)

@@ -1,0 +1,89 @@
+-- Opening a pool: what the tests of the settings tell, the image of a new index, and that the promise leaves one answer. Assumes nothing.
+use mathlib.Core.Path.{_≡_, refl, sym, ap, _∙_}
+use mathlib.Core.Bool.{Bool, true, false, true≢false}
+use mathlib.Core.List.{List, [], _∷_, _++_, map}
+use Prim.Native.Nat.{ℕ, zero, suc, _+_, _-_, _*_, _/_, _≤_, _<_}
+use native.Mathlib.Omega.{arith}
+use native.Mathlib.Nat.{mul-le-mul}
+use lib.Dec.{leb}
+use lib.ListN.{length, replicate}
+use borrow.Author.Tests.{leb-true, le-leb, ne-eqb}
+use Rattle.words.specs.Words.{words, bytesOf}
+use Rattle.words.proofs.Laws.{Bytes, length-words, bytesOf-words}
+use Rattle.slots.specs.Slots.{width, Shape}
+use Rattle.slots.specs.Header.{headerOf}
+use Rattle.slots.specs.Nodes.{unused}
+use Rattle.slots.specs.Nodes as S
+use Rattle.slots.specs.Image.{image, newNodes}
+use Rattle.model.specs.declared.Settings.{Settings}
+use Rattle.model.specs.Lists.{upFrom}
+use Rattle.model.specs.Tree.{newIndex}
+use Rattle.model.specs.Sound.{InLimits}
+use Rattle.model.proofs.Calls.{new-sound}
+use Rattle.tree.specs.Bridge.{Cell}
+use Rattle.tree.specs.Pool.{poolLen, nodeIn, nodesOf, imageOf, SoundPool}
+use Rattle.tree.specs.Opening.{Opened}
+use Rattle.model.specs.Answer.{Tells}
+use Rattle.model.proofs.Answers.{tells-unique}
+use Rattle.tree.proofs.Pools.{image-sound}
+
+-- WHAT A TEST TELLS
+
+pub tells-most : (low n high : ℕ) → low ≤ n → Tells (leb n high) ((low ≤ n) × (n ≤ high))
+tells-most low n high h = record { holds = λ e. (h, leb-true n high e); told = λ p. le-leb n high (p .1) }
+
+pub tells-least : (low n high : ℕ) → n < low → Tells (leb low n) ((low ≤ n) × (n ≤ high))
+tells-least low n high h = record { holds = λ e. absurd (omega (arith, leb-true low n e)); told = λ p. le-leb low n (p .0) }
+
+-- the settings are in limits if each is
+pub tells-limits : (st : Settings) (r : Bool) → (8 ≤ st .nodes) × (st .nodes ≤ 16384) → (4 ≤ st .order) × (st .order ≤ 32)
+    → Tells r ((1 ≤ st .minimum) × (st .minimum ≤ (st .order + 1) / 2)) → Tells r (InLimits st)
+tells-limits st r n o t =
+    record {
+      holds = λ e. record { many = n .0; bounded = n .1; wide = o .0; narrow = o .1; some = t .holds e .0; least = t .holds e .1 };
+      told = λ lim. t .told (lim .some, lim .least);
+    }
+
+-- THE LENGTH of a pool fits a number
+
+pub slots-small : (st : Settings) → InLimits st → st .nodes * width (st .order) ≤ 3178496
+slots-small st lim = mul-le-mul {n₁ = st .nodes} {m₁ = width (st .order)} {n₂ = 16384} {m₂ = 194} (lim .bounded) (omega (arith, lim .narrow))
+
+pub exact-shape : (st : Settings) (l : List ℕ) → InLimits st → length l ≡ poolLen st → Shape st (words l)
+exact-shape st l lim e = record { limits = lim; size = omega (arith, length-words l) }
+
+-- A NEW INDEX: its nodes are an empty leaf, and then unused ones
+
+later-unused : (c : Cell) (a n : ℕ) → c .slot < a → map (nodeIn (c ∷ [])) (upFrom a n) ≡ replicate n unused
+later-unused c a zero h = refl
+later-unused c a (suc n) h =
+    let first : nodeIn (c ∷ []) a ≡ unused = rw (ne-eqb a (c .slot) (λ e. omega arith)) in
+    ap (λ (m : S.Node). m ∷ map (nodeIn (c ∷ [])) (upFrom (suc a) n)) first ∙ ap (λ (l : List S.Node). unused ∷ l) (later-unused c (suc a) n (omega arith))
+
+pub new-nodes : (n : ℕ) → 0 < n → nodesOf n (newIndex n) ≡ newNodes n
+new-nodes zero h = absurd (omega arith)
+new-nodes (suc n) h =
+    let e : suc n - 1 ≡ n = omega arith in
+    rw e (ap (λ (l : List S.Node). record { kind = 1; rows = [] } ∷ l) (later-unused (record { slot = 0; node = record { kind = 1; rows = [] } }) 1 n (omega arith)))
+
+-- a pool of these nodes is its image
+pub new-image : (st : Settings) (l : List ℕ) → InLimits st → length l ≡ poolLen st → Bytes l
+    → words l ≡ headerOf st ++ image (st .order) (newNodes (st .nodes)) → l ≡ imageOf st (newIndex (st .nodes))
+new-image st l lim n b e =
+    sym (bytesOf-words (4 + st .nodes * width (st .order)) l n b) ∙ ap bytesOf e
+    ∙ ap (λ (ns : List S.Node). bytesOf (headerOf st ++ image (st .order) ns)) (sym (new-nodes (st .nodes) (omega (arith, lim .many))))
+
+-- so a pool that was opened is sound
+pub new-pool : (st : Settings) → InLimits st → SoundPool (imageOf st (newIndex (st .nodes)))
+new-pool st lim = image-sound st (newIndex (st .nodes)) (new-sound st lim)
+
+-- THE PROMISE LEAVES ONE ANSWER, and one pool
+
+pub opened-unique : (st : Settings) (l₀ : List ℕ) (q r : Bool) (k l : List ℕ) → Opened st l₀ q k → Opened st l₀ r l → (q ≡ r) × (k ≡ l)
+opened-unique st l₀ q r k l a b = (tells-unique (a .answer) (b .answer), by q r (tells-unique (a .answer) (b .answer)) a b)
+  where
+    by : (q r : Bool) → q ≡ r → Opened st l₀ q k → Opened st l₀ r l → k ≡ l
+    by true true e a b = a .new refl ∙ sym (b .new refl)
+    by false false e a b = a .kept refl ∙ sym (b .kept refl)
+    by true false e a b = absurd (true≢false e)
+    by false true e a b = absurd (true≢false (sym e))

@@ -1,0 +1,122 @@
+-- The image of an index in a pool's bytes, the index that a pool's bytes hold, and what a sound pool is. Assumes nothing.
+use Prim.Native.Nat.{ℕ, zero, suc, _+_, _*_, _/_, _%_, _≤_}
+use mathlib.Core.Path.{_≡_}
+use mathlib.Core.Bool.{cond}
+use mathlib.Core.List.{List, [], _∷_, _++_, map}
+use lib.ListN.{length, getD}
+use lib.Dec.{eqb}
+use Rattle.words.specs.Words.{words, bytesOf}
+use Rattle.slots.specs.declared.Row.{Row}
+use Rattle.slots.specs.Slots.{width, rawAt}
+use Rattle.slots.specs.Header.{settingsOf, headerOf}
+use Rattle.slots.specs.Nodes.{nodes, nth, unused, Canon}
+use Rattle.slots.specs.Nodes as S
+use Rattle.slots.specs.Image.{image}
+use Rattle.model.specs.declared.Settings.{Settings}
+use Rattle.model.specs.declared.Totals.{Totals}
+use Rattle.model.specs.Lists.{upFrom, All}
+use Rattle.model.specs.Tree.{Tree, Index, depth, entriesOf, slotsOf, greatestKey, total}
+use Rattle.model.specs.Sound.{InLimits, Whole, Rooted, Sorted, Fits, Once}
+use Rattle.tree.specs.Bridge.{Cell, cells, childOf, treeAt, unusedOf}
+
+-- THE EXACT LENGTH of a pool, in bytes
+abbrev pub poolLen : Settings → ℕ
+poolLen st = 8 * (4 + st .nodes * width (st .order))
+
+-- THE IMAGE of an index
+
+-- the node that some cells put into slot s
+abbrev pub nodeIn : List Cell → ℕ → S.Node
+nodeIn [] s = unused
+nodeIn (c ∷ cs) s = cond (eqb s (c .slot)) (c .node) (nodeIn cs s)
+
+abbrev pub nodesOf : ℕ → Index → List S.Node
+nodesOf n x = map (nodeIn (cells (suc (x .height)) (x .root))) (upFrom 0 n)
+
+-- the words of its pool, header and nodes; and the bytes
+abbrev pub wordsOf : Settings → Index → List ℕ
+wordsOf st x = headerOf st ++ image (st .order) (nodesOf (st .nodes) x)
+
+abbrev pub imageOf : Settings → Index → List ℕ
+imageOf st x = bytesOf (wordsOf st x)
+
+-- THE INDEX that a pool holds
+
+abbrev pub firstChild : List Row → ℕ
+firstChild [] = 0
+firstChild (r ∷ rs) = childOf r
+
+-- how many interiors there are down the left edge from slot s, at most so many
+abbrev pub heightAt : List S.Node → ℕ → ℕ → ℕ
+heightAt ns zero s = 0
+heightAt ns (suc most) s = cond (eqb (nth ns s .kind) 2) (suc (heightAt ns most (firstChild (nth ns s .rows)))) 0
+
+-- the root is in slot 0; a tree that is deeper than 8 is seen as one of depth 9
+abbrev pub indexIn : List S.Node → Index
+indexIn ns = record { height = heightAt ns 8 0; root = treeAt ns (heightAt ns 8 0) 0; unused = unusedOf ns }
+
+abbrev pub settingsIn : List ℕ → Settings
+settingsIn l = settingsOf (words l)
+
+abbrev pub nodesIn : List ℕ → List S.Node
+nodesIn l = nodes (settingsIn l) (words l)
+
+abbrev pub indexOf : List ℕ → Index
+indexOf l = indexIn (nodesIn l)
+
+-- A SOUND POOL: document 01's list, in its order
+
+-- the nodes of height 0 are leaves, those above interiors
+abbrev pub Kinds : List S.Node → (h : ℕ) → ℕ → Type 0
+Kinds ns zero s = nth ns s .kind ≡ 1
+Kinds ns (suc h) s = (nth ns s .kind ≡ 2) × All (λ r. Kinds ns h (childOf r)) (nth ns s .rows)
+
+-- P holds of every interior row and the child that it names
+abbrev pub EachChild : ((h : ℕ) → Row → Tree h → Type 0) → List S.Node → (h : ℕ) → ℕ → Type 0
+EachChild P ns zero s = Unit {0}
+EachChild P ns (suc h) s = All (λ r. P h r (treeAt ns h (childOf r)) × EachChild P ns h (childOf r)) (nth ns s .rows)
+
+abbrev pub Separates : (h : ℕ) → Row → Tree h → Type 0
+Separates h r c = r .key ≡ greatestKey (suc h) c
+
+-- the totals that an interior row stores
+pub record Adds (t : Totals) (r : Row) : Type 0 where
+  pub live : r .body / 1048576 % 1048576 ≡ t .live
+  pub dead : r .body % 1048576 ≡ t .dead
+  pub size : r .size ≡ t .size
+
+abbrev pub Totalled : (h : ℕ) → Row → Tree h → Type 0
+Totalled h r c = Adds (total (suc h) c) r
+
+-- a slot has zeros past its rows, and nothing but zeros if it is unused
+pub record Zeros (st : Settings) (W : List ℕ) (s : ℕ) : Type 0 where
+  pub tail : Canon (st .order) (rawAt st W s)
+  pub whole : nth (nodes st W) s .kind ≡ 0 → nth (nodes st W) s ≡ unused
+
+-- of the nodes ns of a pool with the settings st
+pub record SoundNodes (st : Settings) (ns : List S.Node) : Type 0 where
+  -- each node in use is reached once from slot 0, and no unused one is
+  pub once : Once (st .nodes) (slotsOf (indexIn ns)) (unusedOf ns)
+  -- leaves share one depth, at most 8
+  pub kinds : Kinds ns (indexIn ns .height) 0
+  pub shallow : depth (indexIn ns) ≤ 8
+  -- a leaf root holds 0 to order entries, an interior root 2 to order, any other node 1 to order
+  pub rooted : Rooted st (indexIn ns .height) (indexIn ns .root)
+  pub whole : All (Whole st (indexIn ns .height)) (indexIn ns .root .items)
+  -- keys strictly ascend over the whole walk; a size is of 4 bytes, though its word has 8
+  pub sorted : Sorted (entriesOf (indexIn ns))
+  pub fit : All Fits (entriesOf (indexIn ns))
+  -- each separator is its child's greatest key
+  pub separators : EachChild Separates ns (indexIn ns .height) 0
+  -- stored totals are right
+  pub totals : EachChild Totalled ns (indexIn ns .height) 0
+
+-- of its bytes
+pub record SoundPool (l : List ℕ) : Type 0 where
+  pub layout : getD (words l) 0 0 ≡ 1
+  -- the settings are in limits, and the length is exact
+  pub settings : InLimits (settingsIn l)
+  pub exact : length l ≡ poolLen (settingsIn l)
+  pub nodes : SoundNodes (settingsIn l) (nodesIn l)
+  -- unused slots, and what is past a node's rows, are all zero
+  pub zeros : (s : ℕ) → Zeros (settingsIn l) (words l) s
