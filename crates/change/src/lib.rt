@@ -1,0 +1,169 @@
+// One batch on the tree in a pool: node change calls interior change, which calls node change one level lower.
+//
+// A leaf takes keys (crate leaf); an interior node walks among its children, and settles each changed one
+// (crate settle). The nodes afterwards, the keys left and the counts are those of the model's `change`.
+ghost use Prim.Native.Nat.{suc};
+ghost use Rattle.words.specs.Words.{words};
+ghost use Rattle.change.specs.Calls.{Call, Came};
+
+mod walk; // the steps of the walk that leave the pool as it is
+
+use model::Counts;
+use model::Operation;
+use model::Settings;
+use settle::ChangeResult;
+use walk::ceiling_for;
+use walk::changed_by;
+use walk::result_of;
+use walk::roams_on;
+use walk::seek_child;
+
+// How far a batch has come, what became of the node, and a slot below which none is unused.
+pub struct Reply {
+    pub next: usize,
+    pub result: ChangeResult,
+    pub counts: Counts,
+    pub low: usize,
+}
+
+// A node of any height takes keys, from key `at` on. (The Rust's `modify`.)
+pub fn node_change(
+    pool: &mut [u8],
+    st: Settings,
+    height: usize,
+    s: usize,
+    keys: &[u64],
+    places: &[u64],
+    sizes: &[u32],
+    op: Operation,
+    at: usize,
+    ceiling: u64,
+    counts: Counts,
+    low: usize,
+) -> Reply
+    requires { ⌜ Call st (words (now pool)) height s op (now places) (now sizes) (now keys) at ceiling counts low ⌝ }
+    ensures { λ r. ⌜ Came st (words (now (pool .entry))) (words (now (pool .exit))) height s op (now (places .entry)) (now (sizes .entry)) (now (keys .entry)) at ceiling counts r ⌝ }
+{
+    if height == 0 {
+        return leaf_change(
+            pool,
+            st,
+            s,
+            keys,
+            places,
+            sizes,
+            op,
+            at,
+            ceiling,
+            counts,
+            low,
+        );
+    }
+    interior_change(
+        pool,
+        st,
+        height - 1,
+        s,
+        keys,
+        places,
+        sizes,
+        op,
+        at,
+        ceiling,
+        counts,
+        low,
+    )
+}
+
+// An interior node, whose children have height `below`, takes keys: each goes to a child, whose result is
+// settled before the walk goes on. (The Rust's `modify_interior`.)
+fn interior_change(
+    pool: &mut [u8],
+    st: Settings,
+    below: usize,
+    s: usize,
+    keys: &[u64],
+    places: &[u64],
+    sizes: &[u32],
+    op: Operation,
+    at: usize,
+    ceiling: u64,
+    counts: Counts,
+    low: usize,
+) -> Reply
+    requires { ⌜ Call st (words (now pool)) (suc below) s op (now places) (now sizes) (now keys) at ceiling counts low ⌝ }
+    ensures { λ r. ⌜ Came st (words (now (pool .entry))) (words (now (pool .exit))) (suc below) s op (now (places .entry)) (now (sizes .entry)) (now (keys .entry)) at ceiling counts r ⌝ }
+{
+    let mut i = 0;
+    let mut next = at;
+    let mut changed = false;
+    let mut c = counts;
+    let mut lowest = low;
+    while roams_on(pool, st, s, keys, next, ceiling, i) {
+        let key = keys[next];
+        let j = seek_child(pool, st, s, i, key);
+        let row = slots::row_at(pool, st, s, j);
+        // a row names its child's slot above the child's live and dead entries
+        let child = (row.body / 1099511627776) as usize;
+        let reach = ceiling_for(row.key, key, ceiling);
+        let r = node_change(
+            pool,
+            st,
+            below,
+            child,
+            keys,
+            places,
+            sizes,
+            op,
+            next,
+            reach,
+            c,
+            lowest,
+        );
+        let v = r.result;
+        let to = settle::settle_child(pool, st, below, s, j, v, r.low);
+        // the settled child may stand before this one: the next key is looked for from there on
+        i = to.at;
+        changed = changed_by(changed, v);
+        next = r.next;
+        c = r.counts;
+        lowest = to.low;
+    }
+    let n = slots::count(pool, st, s);
+    let result = result_of(st, changed, n);
+    Reply {
+        next,
+        result,
+        counts: c,
+        low: lowest,
+    }
+}
+
+// A leaf takes keys. (What is left of the Rust's `modify_leaf` beside its loop.)
+fn leaf_change(
+    pool: &mut [u8],
+    st: Settings,
+    s: usize,
+    keys: &[u64],
+    places: &[u64],
+    sizes: &[u32],
+    op: Operation,
+    at: usize,
+    ceiling: u64,
+    counts: Counts,
+    low: usize,
+) -> Reply
+    requires { ⌜ Call st (words (now pool)) 0 s op (now places) (now sizes) (now keys) at ceiling counts low ⌝ }
+    ensures { λ r. ⌜ Came st (words (now (pool .entry))) (words (now (pool .exit))) 0 s op (now (places .entry)) (now (sizes .entry)) (now (keys .entry)) at ceiling counts r ⌝ }
+{
+    let r = leaf::take_keys(pool, st, s, keys, places, sizes, op, at, ceiling, counts);
+    let n = slots::count(pool, st, s);
+    let result = result_of(st, r.changed, n);
+    let c = r.counts;
+    Reply {
+        next: r.next,
+        result,
+        counts: c,
+        low,
+    }
+}

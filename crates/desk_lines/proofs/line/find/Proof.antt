@@ -1,0 +1,62 @@
+use borrow.Author.Needs.{needs}
+use native.Mathlib.Omega.{arith}
+use Prim.Native.Nat.{ℕ, zero, suc, _+_, _-_, _*_, _^_, _≤_, _<_}
+use mathlib.Core.Path.{_≡_, refl, sym, ap, _∙_}
+use mathlib.Core.List.{List, []}
+use lib.ListN.{length, drop}
+use Rattle.desk_lines.specs.Lines.{endOf}
+use Rattle.desk_lines.proofs.Finds.{end-here, end-past, end-last}
+use Rattle.desk_lines.proofs.line.find.Statement.{statement}
+use Rattle.desk_lines.proofs.line.find.Tie as tie
+use Rattle.desk_lines.proofs.line.find.Reads as reads
+use Rattle.desk_lines.proofs.line.find.Lts as lts
+
+abbrev Inv-loop : tie.InvT-loop
+Inv-loop text from stop i₀ i = (from ≤ i) × (i ≤ length text) × (endOf stop text i ≡ endOf stop text from)
+
+abbrev μ-loop : tie.MeasureT-loop
+μ-loop text from stop i₀ i = length text - i
+
+-- src/line.rt:22:5
+loop-holds : tie.Need-loop-holds Inv-loop μ-loop
+loop-holds c = search needs
+
+-- src/line.rt:23:12
+shared-slice-read-if1 : tie.Need-shared-slice-read-if1 Inv-loop μ-loop
+shared-slice-read-if1 c = search needs
+
+-- src/line.rt:24:13
+returns : tie.Need-returns Inv-loop μ-loop
+returns c = let h = c .before .before .before .loop in
+    (sym (end-here _ _ _ (c .before .before .loop-test .taken) (c .if1 .taken)) ∙ h .inv .2, search needs, search needs)
+
+-- src/line.rt:26:9
+add-i : tie.Need-add-i Inv-loop μ-loop
+add-i c = search needs
+
+-- src/line.rt:22:5
+loop-less : tie.Need-loop-less Inv-loop μ-loop
+loop-less c = search needs
+
+-- src/line.rt:22:5
+loop-again : tie.Need-loop-again Inv-loop μ-loop
+loop-again c = let h = c .before .before .before .loop in
+    (search needs, search needs, end-past _ _ _ (c .before .before .loop-test .taken) (c .if1 .left) ∙ h .inv .2)
+
+-- src/line.rt:17:1
+returns-2 : tie.Need-returns-2 Inv-loop μ-loop
+returns-2 c = (sym (end-last _ _ _ (c .loop-test .left)) ∙ c .before .loop .inv .2, search needs, search needs)
+
+pub find-spec : {M : Type 1} → statement M
+find-spec =
+    tie.close
+    (tie.spec
+    Inv-loop
+    μ-loop
+    loop-holds
+    shared-slice-read-if1
+    returns
+    add-i
+    loop-less
+    loop-again
+    returns-2)

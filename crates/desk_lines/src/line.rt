@@ -1,0 +1,29 @@
+// The next line, handed back as the part of the text it occupies.
+ghost use mathlib.Core.Path.{_≡_};
+ghost use Prim.Native.Nat.{_≤_};
+ghost use lib.ListN.{length};
+ghost use Rattle.desk_lines.specs.Lines.{lineAt, endOf};
+
+// The line that begins at `from`, without its line feed. Where the text ends first, what is there of it.
+pub fn next_line(text: &[u8], from: usize) -> &[u8]
+    requires { ⌜ from ≤ length (now text) ⌝ }
+    ensures { λ r. ⌜ now r ≡ lineAt (now (text .entry)) from ⌝ }
+{
+    let end = find(text, from, b'\n');
+    &text[from..end]
+}
+
+// Where the byte `stop` next stands, or the text's end.
+pub fn find(text: &[u8], from: usize, stop: u8) -> usize
+    requires { ⌜ from ≤ length (now text) ⌝ }
+    ensures { λ r. ⌜ (r ≡ endOf stop (now (text .entry)) from) × (from ≤ r) × (r ≤ length (now (text .entry))) ⌝ }
+{
+    let mut i = from;
+    while i < text.len() {
+        if text[i] == stop {
+            return i;
+        }
+        i += 1;
+    }
+    i
+}

@@ -1,0 +1,9 @@
+-- `Lines` is of writing, `Spelt` of reading, `Coded` of both kinds of entry, `Told` of answers, `Walks` and `Noded` of a pool's nodes, `Undoes`
+-- of writing and reading together.
+mod Lines
+mod Spelt
+mod Coded
+mod Told
+mod Walks
+mod Noded
+pub mod Undoes

@@ -1,0 +1,8 @@
+-- `Contents` says what a kind and entries by value are, `Answers` what writing and reading promise, `Digits` how a line spells bytes, `Entries`
+-- which bytes an entry has, `Walk` what a walk over a pool's slots finds, `Undo` what follows from the promises.
+pub mod Contents
+pub mod Answers
+pub mod Digits
+pub mod Entries
+pub mod Walk
+pub mod Undo

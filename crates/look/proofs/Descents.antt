@@ -1,0 +1,277 @@
+-- A key's way down: the keys of a node's rows ascend, a key is held in the child that it goes to exactly as in the whole, and what a search of the leaf
+-- finds is what is listed. Assumes nothing.
+use mathlib.Core.Path.{_≡_, refl, sym, ap, _∙_, subst}
+use mathlib.Core.Logic.{_≢_}
+use mathlib.Core.Bool.{Bool, true, false, cond}
+use mathlib.Core.List.{List, [], _∷_, _++_, map, append-nil}
+use mathlib.Core.Option as O
+use Prim.Native.Nat.{ℕ, zero, suc, _+_, _-_, _≤_, _<_}
+use native.Mathlib.Omega.{arith}
+use native.Mathlib.Numerals.{add-one}
+use native.Mathlib.Nat.{not-suc-le-zero, le-of-suc-le-suc}
+use lib.ListN.{length, drop, getD, length-map, drop-of-length-le}
+use lib.Seq.{drop-cons}
+use lib.Dec.{ltb, eqb}
+use borrow.Author.Tests.{lt-ltb, le-ltb, ne-eqb, ltb-true, ltb-false, eqb-true}
+use Rattle.slots.specs.declared.Row.{Row}
+use Rattle.slots.specs.declared.Found.{Found}
+use Rattle.slots.specs.declared.Found.the-variants.{At, Before}
+use Rattle.slots.specs.Slots.{blank}
+use Rattle.slots.specs.Nodes.{nodes, rowsAt}
+use Rattle.slots.specs.Nodes as S
+use Rattle.slots.specs.Search.{keyAt, pick, below, findRow, Within, Sought}
+use Rattle.slots.specs.Search as R
+use Rattle.model.specs.declared.Entry.{Entry}
+use Rattle.model.specs.declared.Settings.{Settings}
+use Rattle.model.specs.Lists.{All, none, one, Ordered, nil, cons}
+use Rattle.model.specs.Tree.{Item, Tree, entries, greatestKey}
+use Rattle.model.specs.Plain.{from, first, held}
+use Rattle.model.specs.Look.{present, found}
+use Rattle.model.specs.Sound.{Whole, Sorted}
+use Rattle.model.proofs.Lists.{all-left, all-right, all-head, all-map, ordered-left, ordered-right}
+use Rattle.model.proofs.Plain.{Under, Over}
+use Rattle.model.proofs.Trees.{flat, flat-zero, Ends, separator-ends, ends-over, ends-under}
+use Rattle.tree.specs.Bridge.{rowFor, entryOf, childOf, Holds, treeAt}
+use Rattle.tree.proofs.SoundHolds.{slot-read}
+use Rattle.look.specs.Output.{Page, enlistAll}
+use Rattle.look.specs.Lookup.{childFor, Chosen, Grown, Leads}
+use Rattle.look.proofs.Outputs.{enlist-append}
+use Rattle.look.proofs.Children.{at-map, held-at, child-held}
+
+-- THE KEYS OF ROWS
+
+row-key : (h : ℕ) (i : Item h) → rowFor h i .key ≡ greatestKey h i
+row-key zero e = refl
+row-key (suc h) n = refl
+
+-- a separator is one of the keys below it
+separators-over : (st : Settings) (h k : ℕ) {xs : List (Item h)} → All (Whole st h) xs → Over k (flat h xs) → All (λ (r : Row). k < r .key) (map (rowFor h) xs)
+separators-over st h k none o = none
+separators-over st h k (one {x = x} {xs = xs} w ws) o =
+    let ends : Ends (entries h x) (greatestKey h x) = separator-ends st h x w in
+    let mine : Over k (ends .init ++ (ends .last ∷ [])) = subst (Over k) (ends .whole) (all-left (entries h x) (flat h xs) o) in
+    let last : k < ends .last .key = all-head (all-right (ends .init) (ends .last ∷ []) mine) in
+    let mine-over : k < rowFor h x .key = omega (arith, ends .key, row-key h x) in
+    one mine-over (separators-over st h k ws (all-right (entries h x) (flat h xs) o))
+
+rows-ordered : (st : Settings) (h : ℕ) {xs : List (Item h)} → All (Whole st h) xs → Sorted (flat h xs) → Ordered (λ (a b : Row). a .key < b .key) (map (rowFor h) xs)
+rows-ordered st h none s = nil
+rows-ordered st h (one {x = x} {xs = xs} w ws) s =
+    let above : All (λ (r : Row). greatestKey h x < r .key) (map (rowFor h) xs) = separators-over st h (greatestKey h x) ws (ends-over (separator-ends st h x w) s) in
+    cons {x = rowFor h x} (subst (λ (k : ℕ). All (λ (r : Row). k < r .key) (map (rowFor h) xs)) (sym (row-key h x)) above)
+    (rows-ordered st h ws (ordered-right (entries h x) (flat h xs) s))
+
+all-at : {A : Type 0} {P : A → Type 0} {xs : List A} → All P xs → (i : ℕ) (z : A) → i < length xs → P (getD xs i z)
+all-at none i z h = absurd (not-suc-le-zero h)
+all-at (one g gs) zero z h = g
+all-at (one g gs) (suc i) z h = all-at gs i z (le-of-suc-le-suc h)
+
+ordered-at : {rs : List Row} → Ordered (λ (a b : Row). a .key < b .key) rs → R.Ascending rs
+ordered-at nil i j h g = absurd (not-suc-le-zero g)
+ordered-at (cons a o) i zero h g = absurd (not-suc-le-zero h)
+ordered-at (cons a o) zero (suc j) h g = all-at a j blank (le-of-suc-le-suc g)
+ordered-at (cons a o) (suc i) (suc j) h g = ordered-at o i j (le-of-suc-le-suc h) (le-of-suc-le-suc g)
+
+module _ (st : Settings) (W : List ℕ) (h s : ℕ) (k : Grown st W h s) where
+  rows-are : rowsAt st W s ≡ map (rowFor h) (treeAt (nodes st W) h s .items)
+  rows-are = ap (λ (t : ℕ). rowsAt st W t) (sym (slot-read (nodes st W) h s)) ∙ ap (λ (n : S.Node). n .rows) (all-head (k .tree))
+
+  -- so a node can be searched
+  pub grown-sorted : R.Sorted st W s
+  grown-sorted =
+      let at = held-at st W h s (k .pool) (k .tree) in
+      record { held = at .held; slot = at .slot; keys = subst R.Ascending (sym rows-are) (ordered-at (rows-ordered st h (k .whole) (k .sorted))) }
+
+  pub grown-some : h ≢ 0 → 0 < length (rowsAt st W s)
+  grown-some ne = omega (arith, ap length rows-are, length-map (treeAt (nodes st W) h s .items) (rowFor h), k .some ne)
+
+-- THE CHILD THAT A KEY GOES TO
+
+in-by : (t : Bool) (b c n : ℕ) → (b < n → b ≡ c) → pick t (suc b) 0 < suc n → pick t (suc b) 0 ≡ cond t (suc c) 0
+unfolding pick
+in-by true b c n f h = ap suc (f (le-of-suc-le-suc h))
+in-by false b c n f h = refl
+
+pub child-in : (key : ℕ) (rs : List Row) → below key rs < length rs → below key rs ≡ childFor key rs
+unfolding below pick
+child-in key [] h = absurd (not-suc-le-zero h)
+child-in key (r ∷ []) h = omega (arith, le-of-suc-le-suc h)
+child-in key (r ∷ (x ∷ rs)) h = in-by (ltb (r .key) key) (below key (x ∷ rs)) (childFor key (x ∷ rs)) (length (x ∷ rs)) (child-in key (x ∷ rs)) h
+
+out-by : (t : Bool) (b c n : ℕ) → (n ≤ b → n - 1 ≡ c) → 0 < n → suc n ≤ pick t (suc b) 0 → suc n - 1 ≡ cond t (suc c) 0
+unfolding pick
+out-by true b c n f p h = omega (arith, f (le-of-suc-le-suc h))
+out-by false b c n f p h = absurd (not-suc-le-zero h)
+
+pub child-out : (key : ℕ) (rs : List Row) → 0 < length rs → length rs ≤ below key rs → length rs - 1 ≡ childFor key rs
+unfolding below pick
+child-out key [] p h = absurd (not-suc-le-zero p)
+child-out key (r ∷ []) p h = refl
+child-out key (r ∷ (x ∷ rs)) p h =
+    out-by (ltb (r .key) key) (below key (x ∷ rs)) (childFor key (x ∷ rs)) (length (x ∷ rs)) (λ g. child-out key (x ∷ rs) (omega arith) g) (omega arith) h
+
+-- the place that a search tells
+abbrev placeOf : Found → ℕ
+placeOf (At i) = i
+placeOf (Before i) = i
+
+place-found : (key : ℕ) (rs : List Row) → placeOf (findRow key rs) ≡ below key rs
+unfolding findRow
+place-found key rs = by (ltb (below key rs) (length rs)) (eqb (keyAt rs (below key rs)) key)
+  where
+    by : (t u : Bool) → placeOf (pick t (pick u (At (below key rs)) (Before (below key rs))) (Before (below key rs))) ≡ below key rs
+    by true true = unfold pick in refl
+    by true false = unfold pick in refl
+    by false u = unfold pick in refl
+
+pub found-inside : (key : ℕ) (rs : List Row) (r : Found) (i : ℕ) → Sought rs key r → r ≡ At i → i < length rs
+found-inside key rs r i q e = subst (Within rs) e (q .within)
+
+pub found-place : (key : ℕ) (rs : List Row) (r f : Found) → Sought rs key r → r ≡ f → placeOf f ≡ below key rs
+found-place key rs r f q e = ap placeOf (sym e ∙ q .is) ∙ place-found key rs
+
+-- A KEY IS HELD IN THAT CHILD exactly as in the whole
+
+module _ (k : ℕ) where
+  from-front : {a : List Entry} (b : List Entry) → Under k a → from k (a ++ b) ≡ from k b
+  from-front b none = refl
+  from-front b (one {x = e} h hs) = rw (lt-ltb (e .key) k h) (from-front b hs)
+
+  held-front : {a : List Entry} (b : List Entry) → Under k a → held k (a ++ b) ≡ held k b
+  held-front b h = ap (first k) (from-front b h)
+
+  held-over : {b : List Entry} → Over k b → held k b ≡ O.none
+  held-over none = refl
+  held-over (one {x = e} h hs) = rw (le-ltb (e .key) k (omega arith), ne-eqb (e .key) k (λ q. omega arith)) refl
+
+  held-back : (a : List Entry) {b : List Entry} → Over k b → held k (a ++ b) ≡ held k a
+  held-back [] o = held-over o
+  held-back (e ∷ a) {b} o =
+      by (ltb (e .key) k) (held-back a o)
+    where
+      by : (t : Bool) → held k (a ++ b) ≡ held k a → first k (cond t (from k (a ++ b)) (e ∷ (a ++ b))) ≡ first k (cond t (from k a) (e ∷ a))
+      by true ih = ih
+      by false ih = refl
+
+  held-child : (st : Settings) (h : ℕ) (z : Tree h) {cs : List (Tree h)} → 0 < length cs → All (Whole st (suc h)) cs → Sorted (flat (suc h) cs)
+      → held k (entries (suc h) (getD cs (childFor k (map (rowFor (suc h)) cs)) z)) ≡ held k (flat (suc h) cs)
+  held-child st h z p none s = absurd (not-suc-le-zero p)
+  held-child st h z p (one {x = c} w none) s = ap (held k) (sym (append-nil (entries (suc h) c)))
+  held-child st h z p (one {x = c} w (one {x = d} {xs = cs} v ws)) s =
+      by (ltb (greatestKey (suc h) c) k) refl (held-child st h z (omega arith) (one v ws) (ordered-right (entries (suc h) c) (flat (suc h) (d ∷ cs)) s))
+    where
+      by : (t : Bool) → ltb (greatestKey (suc h) c) k ≡ t → held k (entries (suc h) (getD (d ∷ cs) (childFor k (map (rowFor (suc h)) (d ∷ cs))) z)) ≡ held k (flat (suc h) (d ∷ cs))
+          → held k (entries (suc h) (getD (c ∷ d ∷ cs) (cond t (suc (childFor k (map (rowFor (suc h)) (d ∷ cs)))) 0) z)) ≡ held k (flat (suc h) (c ∷ d ∷ cs))
+      by true e ih =
+          ih ∙ sym (held-front (flat (suc h) (d ∷ cs))
+          (ends-under (separator-ends st (suc h) c w) (ordered-left (entries (suc h) c) (flat (suc h) (d ∷ cs)) s) (ltb-true (greatestKey (suc h) c) k e)))
+      by false e ih =
+          let le : k ≤ greatestKey (suc h) c = ltb-false (greatestKey (suc h) c) k e in
+          sym (held-back (entries (suc h) c) (all-map (λ (x : Entry) g. omega arith) (ends-over (separator-ends st (suc h) c w) s)))
+
+-- DOWN ONE LEVEL
+
+sorted-at : (h : ℕ) (xs : List (Item h)) (i : ℕ) (z : Item h) → i < length xs → Sorted (flat h xs) → Sorted (entries h (getD xs i z))
+sorted-at h [] i z g s = absurd (not-suc-le-zero g)
+sorted-at h (x ∷ xs) zero z g s = ordered-left (entries h x) (flat h xs) s
+sorted-at h (x ∷ xs) (suc i) z g s = sorted-at h xs i z (le-of-suc-le-suc g) (ordered-right (entries h x) (flat h xs) s)
+
+module _ (st : Settings) (W : List ℕ) (key : ℕ) where
+  module _ (h s : ℕ) (g : Grown st W (suc h) s) where
+    abbrev kid : Row → Tree h
+    kid r = treeAt (nodes st W) h (childOf r)
+
+    abbrev kids : List (Tree h)
+    kids = map kid (rowsAt st W s)
+
+    -- the tree of the child that the key goes to
+    lower : (i : ℕ) (row : Row) → Chosen key (rowsAt st W s) i → row ≡ getD (rowsAt st W s) i blank
+        → Grown st W h (childOf row) × (held key (entries (suc h) (kid row)) ≡ held key (entries (suc (suc h)) (treeAt (nodes st W) (suc h) s)))
+    lower i row c e =
+        let here : getD kids i (kid blank) ≡ kid row = at-map kid (rowsAt st W s) i blank (kid blank) (c .inside) ∙ ap kid (sym e) in
+        let inside : i < length kids = omega (arith, c .inside, length-map (rowsAt st W s) kid) in
+        let whole : Whole st (suc h) (kid row) = subst (Whole st (suc h)) here (all-at (g .whole) i (kid blank) inside) in
+        let place : i ≡ childFor key (map (rowFor (suc h)) kids) = c .is ∙ ap (childFor key) (rows-are st W (suc h) s g) in (
+          record {
+            pool = g .pool;
+            tree = subst (λ (r : Row). Holds (nodes st W) h (kid r)) (sym e) (child-held (nodes st W) h s (g .tree) i (c .inside));
+            some = λ ne. whole .0 .some;
+            whole = whole .1;
+            sorted = subst (λ (t : Tree h). Sorted (entries (suc h) t)) here (sorted-at (suc h) kids i (kid blank) inside (g .sorted));
+          },
+          ap (λ (t : Tree h). held key (entries (suc h) t)) (sym here) ∙ ap (λ (n : ℕ). held key (entries (suc h) (getD kids n (kid blank)))) place
+              ∙ held-child key st h (kid blank) (omega (arith, inside)) (g .whole) (g .sorted),
+        )
+
+  -- the same for a height that is not 0
+  pub descend : (h s i : ℕ) (row : Row) → 0 < h → Grown st W h s → Chosen key (rowsAt st W s) i → row ≡ getD (rowsAt st W s) i blank
+      → Grown st W (h - 1) (childOf row) × (held key (entries (suc (h - 1)) (treeAt (nodes st W) (h - 1) (childOf row))) ≡ held key (entries (suc h) (treeAt (nodes st W) h s)))
+  descend zero s i row p g c e = absurd (omega arith)
+  descend (suc h) s i row p g c e =
+      let down : h ≡ suc h - 1 = omega arith in
+      subst (λ (n : ℕ). Grown st W n (childOf row) × (held key (entries (suc n) (treeAt (nodes st W) n (childOf row))) ≡ held key (entries (suc (suc h)) (treeAt (nodes st W) (suc h) s)))) down
+      (lower h s g i row c e)
+
+  pub arrive : (height h s : ℕ) → h ≤ 0 → Grown st W h s → held key (entries (suc h) (treeAt (nodes st W) h s)) ≡ held key (entries (suc height) (treeAt (nodes st W) height 0)) → Leads st W height key 0 s
+  arrive height zero s p g e = record { grown = g; same = e }
+  arrive height (suc h) s p g e = absurd (omega arith)
+
+-- WHAT A SEARCH OF THE LEAF FINDS is what is listed
+
+abbrev listFound : List Row → Found → List Entry
+listFound rs (At i) = entryOf (getD rs i blank) ∷ []
+listFound rs (Before i) = []
+
+from-below : (k : ℕ) (rs : List Row) → from k (map entryOf rs) ≡ drop (below k rs) (map entryOf rs)
+unfolding below pick
+from-below k [] = refl
+from-below k (r ∷ rs) = by (ltb (r .key) k) (from-below k rs)
+  where
+    by : (t : Bool) → from k (map entryOf rs) ≡ drop (below k rs) (map entryOf rs)
+        → cond t (from k (map entryOf rs)) (entryOf r ∷ map entryOf rs) ≡ drop (pick t (suc (below k rs)) 0) (entryOf r ∷ map entryOf rs)
+    by true ih = ih
+    by false ih = refl
+
+entry-is : (k : ℕ) (r : Row) (t : Bool) → eqb (r .key) k ≡ t → present k (cond t (O.some (record { place = r .body; size = r .size })) O.none) ≡ cond t (entryOf r ∷ []) []
+entry-is k r true e = let same : k ≡ r .key = sym (eqb-true (r .key) k e) in ap (λ (n : ℕ). record { key = n; place = r .body; size = r .size } ∷ []) same
+entry-is k r false e = refl
+
+present-found : (k : ℕ) (rs : List Row) → present k (held k (map entryOf rs)) ≡ listFound rs (findRow k rs)
+unfolding findRow pick
+present-found k rs = ap (λ (es : List Entry). present k (first k es)) (from-below k rs) ∙ by (ltb (below k rs) (length rs)) refl
+  where
+    hit : (u : Bool) → eqb (keyAt rs (below k rs)) k ≡ u
+        → present k (cond u (O.some (record { place = getD rs (below k rs) blank .body; size = getD rs (below k rs) blank .size })) O.none)
+        ≡ listFound rs (pick u (At (below k rs)) (Before (below k rs)))
+    hit true e = entry-is k (getD rs (below k rs) blank) true e
+    hit false e = refl
+
+    by : (t : Bool) → ltb (below k rs) (length rs) ≡ t
+        → present k (first k (drop (below k rs) (map entryOf rs))) ≡ listFound rs (pick t (pick (eqb (keyAt rs (below k rs)) k) (At (below k rs)) (Before (below k rs))) (Before (below k rs)))
+    by true e =
+        let inside : below k rs < length rs = ltb-true (below k rs) (length rs) e in
+        let long : below k rs < length (map entryOf rs) = omega (arith, length-map rs entryOf) in
+        ap (λ (es : List Entry). present k (first k es)) (drop-cons (map entryOf rs) (below k rs) (entryOf blank) long)
+        ∙ ap (λ (x : Entry). present k (first k (x ∷ drop (suc (below k rs)) (map entryOf rs)))) (at-map entryOf rs (below k rs) blank (entryOf blank) inside)
+        ∙ hit (eqb (keyAt rs (below k rs)) k) refl
+    by false e =
+        let out : length (map entryOf rs) ≤ below k rs = omega (arith, ltb-false (below k rs) (length rs) e, length-map rs entryOf) in
+        ap (λ (es : List Entry). present k (first k es)) (drop-of-length-le (map entryOf rs) out)
+
+module _ (st : Settings) (W : List ℕ) (height key leaf : ℕ) (lead : Leads st W height key 0 leaf) where
+  pub found-listed : (r f : Found) → Sought (rowsAt st W leaf) key r → r ≡ f
+      → listFound (rowsAt st W leaf) f ≡ present key (held key (entries (suc height) (treeAt (nodes st W) height 0)))
+  found-listed r f q e =
+      ap (listFound (rowsAt st W leaf)) (sym e ∙ q .is) ∙ sym (present-found key (rowsAt st W leaf))
+      ∙ ap (λ (es : List Entry). present key (held key es)) (sym (flat-zero (map entryOf (rowsAt st W leaf)))) ∙ ap (present key) (lead .same)
+
+-- KEY AFTER KEY
+
+pub keys-next : (room : ℕ) (ks : List ℕ) (es : List Entry) (p : Page) (k : ℕ) → k < length ks
+    → enlistAll room (found (drop (k + 1) ks) es) (enlistAll room (present (getD ks k 0) (held (getD ks k 0) es)) p) ≡ enlistAll room (found (drop k ks) es) p
+keys-next room ks es p k g =
+    rw (drop-cons ks k 0 g, add-one)
+    (sym (enlist-append room (present (getD ks k 0) (held (getD ks k 0) es)) (found (drop (suc k) ks) es) p))
+
+pub keys-end : (room : ℕ) (ks : List ℕ) (es : List Entry) (p : Page) (k : ℕ) → length ks ≤ k → enlistAll room (found (drop k ks) es) p ≡ p
+keys-end room ks es p k g = ap (λ (l : List ℕ). enlistAll room (found l es) p) (drop-of-length-le ks g)

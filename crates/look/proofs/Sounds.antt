@@ -1,0 +1,170 @@
+-- A sound pool gives what the calls ask, and what they have listed and counted is what the model says of its index. Assumes nothing.
+use mathlib.Core.Path.{_≡_, refl, sym, ap, _∙_, subst}
+use mathlib.Core.Logic.{_≢_}
+use mathlib.Core.Bool.{false, cond}
+use mathlib.Core.List.{List, [], _∷_, map, reverse, reverse-cons, append-nil}
+use Prim.Native.Nat.{ℕ, zero, suc, _/_, _≤_, _<_}
+use native.Mathlib.Omega.{arith}
+use lib.ListN.{length, length-append}
+use Rattle.words.specs.Words.{words}
+use Rattle.slots.specs.Nodes.{nodes, nth}
+use Rattle.model.specs.declared.Entry.{Entry}
+use Rattle.model.specs.declared.Settings.{Settings}
+use Rattle.model.specs.declared.Direction.{Direction}
+use Rattle.model.specs.declared.Direction.the-variants.{Up, Down}
+use Rattle.model.specs.Lists.{concat}
+use Rattle.model.specs.Tree.{Tree, len, entries, entriesOf, slots, greatestKey, total, totalsOf}
+use Rattle.model.specs.Look.{Request, listing, getAll, found, ends, untilEnd, reached, entered, openings, dueIn}
+use Rattle.model.specs.Look as M
+use Rattle.model.specs.Sound.{Rooted, Sound}
+use Rattle.model.proofs.Lists.{by-test, all-head}
+use Rattle.model.proofs.Trees.{slotsIn}
+use Rattle.model.proofs.Scans.{openings-law}
+use Rattle.tree.specs.Bridge.{treeAt}
+use Rattle.tree.specs.Pool.{settingsIn, nodesIn, indexOf}
+use Rattle.tree.proofs.Few.{used-few, entries-most}
+use Rattle.tree.proofs.Pools.{sound-held, sound-holds-index, sound-index}
+use Rattle.tree.proofs.SoundHolds.{slot-read}
+use Rattle.look.specs.declared.Listed.{Listed}
+use Rattle.look.specs.declared.Scanned.{Scanned}
+use Rattle.look.specs.declared.query.Query.{Query}
+use Rattle.look.specs.Stats.{Right}
+use Rattle.look.specs.Output.{roomIn, page, enlistAll, freshPage}
+use Rattle.look.specs.Walk.{requestOf, Walk, walkAt, visitAll, openingsOf, ToScan}
+use Rattle.look.specs.Lookup.{Grown}
+use Rattle.look.specs.Calls.{InPool, Writes}
+use Rattle.look.proofs.Outputs.{Shows, shows-none, shows-all}
+use Rattle.look.proofs.Visits.{openings-append, visits-show, visits-count}
+
+-- A SCAN OPENS NO MORE NODES than the tree has
+
+module _ (q : Request) (h : ℕ) (f : (c : Tree h) → length (openings q h c) ≤ length (slots (suc h) c)) where
+  one-few : (c : Tree h) → length (openingsOf q h (c ∷ [])) ≤ length (slots (suc h) c)
+  one-few c =
+      by-test (λ (cs : List (Tree h)). length (concat (map (openings q h) cs)) ≤ length (slots (suc h) c)) (entered q (suc h) c)
+      (λ _. omega (arith, ap length (append-nil (openings q h c)), f c)) (λ _. omega arith)
+
+  up-few : (cs : List (Tree h)) → length (openingsOf q h (untilEnd q (suc h) cs)) ≤ length (slotsIn (suc h) cs)
+  up-few [] = omega arith
+  up-few (c ∷ cs) =
+      let rest : List (Tree h) = cond (ends (q .end) (greatestKey (suc h) c)) (untilEnd q (suc h) cs) [] in
+      let left : length (openingsOf q h (cond (ends (q .end) (greatestKey (suc h) c)) (untilEnd q (suc h) cs) [])) ≤ length (slotsIn (suc h) cs) =
+      by-test (λ (ds : List (Tree h)). length (openingsOf q h ds) ≤ length (slotsIn (suc h) cs)) (ends (q .end) (greatestKey (suc h) c)) (λ _. up-few cs) (λ _. omega arith) in
+      omega (arith, ap length (openings-append q h (c ∷ []) rest), length-append (openingsOf q h (c ∷ [])) (openingsOf q h rest), one-few c, length-append (slots (suc h) c) (slotsIn (suc h) cs))
+
+  down-few : (cs : List (Tree h)) → length (openingsOf q h (reverse cs)) ≤ length (slotsIn (suc h) cs)
+  down-few [] = omega arith
+  down-few (c ∷ cs) =
+      omega (
+        arith,
+        ap (λ (ds : List (Tree h)). length (openingsOf q h ds)) (reverse-cons c cs),
+        ap length (openings-append q h (reverse cs) (c ∷ [])),
+        length-append (openingsOf q h (reverse cs)) (openingsOf q h (c ∷ [])),
+        down-few cs,
+        one-few c,
+        length-append (slots (suc h) c) (slotsIn (suc h) cs),
+      )
+
+  children-few : (d : Direction) (cs : List (Tree h)) → length (openingsOf q h (reached q d (suc h) cs)) ≤ length (slotsIn (suc h) cs)
+  children-few Up cs = up-few cs
+  children-few Down cs = down-few cs
+
+openings-few : (q : Request) (h : ℕ) (n : Tree h) → length (openings q h n) ≤ length (slots (suc h) n)
+openings-few q zero n = omega arith
+openings-few q (suc h) n = omega (arith, children-few q h (openings-few q h) (q .direction) (n .items))
+
+-- A SOUND POOL
+
+rooted-some : (st : Settings) (h : ℕ) (n : Tree h) → Rooted st h n → h ≢ 0 → 0 < len n
+rooted-some st zero n r ne = absurd (ne refl)
+rooted-some st (suc h) n r ne = omega (arith, r .0)
+
+module _ (l : List ℕ) (st : Settings) (height : ℕ) (k : InPool l st height) where
+  -- what holds of the pool's own settings and height holds of st and height
+  own : (P : Settings → ℕ → Type 0) → P (settingsIn l) (indexOf l .height) → P st height
+  own P p = subst (λ (s : Settings). P s height) (sym (k .own)) (subst (P (settingsIn l)) (sym (k .tall)) p)
+
+  sound : Sound (settingsIn l) (indexOf l)
+  sound = sound-index l (k .sound)
+
+  pub pool-right : Right st (words l) height 0
+  pool-right =
+      own (λ s h. Right s (words l) h 0)
+      (record {
+        held = sound-held l (k .sound);
+        slot = omega (arith, k .sound .settings .many);
+        node = ap (nth (nodesIn l)) (sym (slot-read (nodesIn l) (indexOf l .height) 0)) ∙ all-head (sound-holds-index l (k .sound) .tree);
+        fit = sound .fit;
+        few = omega (arith, entries-most (settingsIn l) (indexOf l) sound);
+      })
+
+  pub pool-totals : total (suc height) (treeAt (nodes st (words l)) height 0) ≡ totalsOf (indexOf l)
+  pool-totals = own (λ s h. total (suc h) (treeAt (nodes s (words l)) h 0) ≡ totalsOf (indexOf l)) refl
+
+  pool-entries : entries (suc height) (treeAt (nodes st (words l)) height 0) ≡ entriesOf (indexOf l)
+  pool-entries = own (λ s h. entries (suc h) (treeAt (nodes s (words l)) h 0) ≡ entriesOf (indexOf l)) refl
+
+  pool-openings : (q : Request) → openings q height (treeAt (nodes st (words l)) height 0) ≡ openings q (indexOf l .height) (indexOf l .root)
+  pool-openings q = own (λ s h. openings q h (treeAt (nodes s (words l)) h 0) ≡ openings q (indexOf l .height) (indexOf l .root)) refl
+
+  pub pool-grown : Grown st (words l) height 0
+  pool-grown =
+      own (λ s h. Grown s (words l) h 0)
+      (record {
+        pool = sound-held l (k .sound);
+        tree = sound-holds-index l (k .sound) .tree;
+        some = rooted-some (settingsIn l) (indexOf l .height) (indexOf l .root) (sound .rooted);
+        whole = sound .whole;
+        sorted = sound .sorted;
+      })
+
+  -- nothing is listed or opened yet
+  abbrev pub start : Scanned
+  start = record { written = 0; more = false; opened = 0 }
+
+  pub pool-scan : (q : Query) (out : List ℕ) → ToScan st (words l) height 0 q out (length out / 24) start
+  pool-scan q out =
+      own (λ s h. ToScan s (words l) h 0 q out (length out / 24) start)
+      (record {
+        held = sound-held l (k .sound);
+        tree = sound-holds-index l (k .sound) .tree;
+        ready = record {
+          fits = omega arith;
+          fresh = refl;
+          few = omega (arith, openings-few (requestOf q) (indexOf l .height) (indexOf l .root), used-few (settingsIn l) (indexOf l) sound);
+        };
+      })
+
+  -- WHAT WAS LISTED AND COUNTED
+
+  shown : (room : ℕ) (out o : List ℕ) (es : List Entry) (r : Listed) → Shows room out es (page o r) → Writes (listing room es) out (r .written) (r .more) o
+  shown room out o es r s = record { count = s .written; due = s .more; bytes = s .bytes }
+
+  pub pool-got : (keys out o : List ℕ) (r : Listed)
+      → page o r ≡ enlistAll (length out / 24) (found keys (entries (suc height) (treeAt (nodes st (words l)) height 0))) (freshPage out)
+      → Writes (getAll keys (roomIn out) (indexOf l)) out (r .written) (r .more) o
+  pool-got keys out o r e =
+      let room : ℕ = length out / 24 in
+      let is : page o r ≡ enlistAll room (found keys (entriesOf (indexOf l))) (freshPage out) = e ∙ ap (λ (es : List Entry). enlistAll room (found keys es) (freshPage out)) pool-entries in
+      shown room out o (found keys (entriesOf (indexOf l))) r
+      (subst (Shows room out (found keys (entriesOf (indexOf l)))) (sym is) (shows-all room out [] (found keys (entriesOf (indexOf l))) (freshPage out) (shows-none room out)))
+
+  module _ (q : Request) (out o : List ℕ) (r : Scanned)
+      (e : walkAt o r ≡ visitAll (length out / 24) (openings q height (treeAt (nodes st (words l)) height 0)) (walkAt out start)) where
+    walked : walkAt o r ≡ visitAll (length out / 24) (openings q (indexOf l .height) (indexOf l .root)) (walkAt out start)
+    walked = e ∙ ap (λ (ns : List (List Entry)). visitAll (length out / 24) ns (walkAt out start)) (pool-openings q)
+
+    pub pool-scanned : Writes (M.scan q (roomIn out) (indexOf l) .listed) out (r .written) (r .more) o
+    pool-scanned =
+        let room : ℕ = length out / 24 in
+        let law : concat (openings q (indexOf l .height) (indexOf l .root)) ≡ dueIn q (entriesOf (indexOf l)) = openings-law q (settingsIn l) (indexOf l .height) (indexOf l .root) (sound .whole) (sound .sorted) in
+        let all : Shows room out (concat (openings q (indexOf l .height) (indexOf l .root))) (visitAll room (openings q (indexOf l .height) (indexOf l .root)) (walkAt out start) .page) =
+        visits-show room out [] (openings q (indexOf l .height) (indexOf l .root)) (walkAt out start) (shows-none room out) in
+        shown room out o (dueIn q (entriesOf (indexOf l))) (record { written = r .written; more = r .more })
+        (subst (λ (es : List Entry). Shows room out es (walkAt o r .page)) law
+        (subst (λ (w : Walk). Shows room out (concat (openings q (indexOf l .height) (indexOf l .root))) (w .page)) (sym walked) all))
+
+    pub pool-opened : r .opened ≡ M.scan q (roomIn out) (indexOf l) .opened
+    pool-opened =
+        let room : ℕ = length out / 24 in
+        ap (λ (w : Walk). w .opened) walked ∙ visits-count room out (openings q (indexOf l .height) (indexOf l .root)) (walkAt out start) (shows-none room out) refl

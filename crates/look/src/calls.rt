@@ -1,0 +1,67 @@
+// The calls: what a sound pool holds, told by its index. `st` and `height` are the pool's own; the caller
+// has read them when it tested the pool.
+ghost use mathlib.Core.Path.{_≡_};
+ghost use Rattle.model.specs.Tree.{totalsOf};
+ghost use Rattle.model.specs.Look.{getAll};
+ghost use Rattle.model.specs.Look as look;
+ghost use Rattle.tree.specs.Pool.{indexOf};
+ghost use Rattle.look.specs.Output.{roomIn};
+ghost use Rattle.look.specs.Calls.{InPool, Writes, requestFor};
+use crate::Listed;
+use crate::Scanned;
+use crate::lookup::get_keys;
+use crate::query::Query;
+use crate::sums::stats;
+use crate::walk::scan_node;
+use model::Bound;
+use model::Direction;
+use model::Settings;
+use model::Sift;
+use model::Totals;
+
+// The totals of the whole tree.
+pub fn totals(pool: &[u8], st: Settings, height: usize) -> Totals
+    requires { ⌜ InPool (now pool) st height ⌝ }
+    ensures { λ r. ⌜ r ≡ totalsOf (indexOf (now (pool .entry))) ⌝ }
+{
+    stats(pool, st, height, 0)
+}
+
+// Lists one entry for each key that is present (the Rust's `get`).
+pub fn get(pool: &[u8], st: Settings, height: usize, keys: &[u64], out: &mut [u8]) -> Listed
+    requires { ⌜ InPool (now pool) st height ⌝ }
+    ensures { λ r. ⌜ Writes (getAll (now (keys .entry)) (roomIn (now (out .entry))) (indexOf (now (pool .entry)))) (now (out .entry)) (r .written) (r .more) (now (out .exit)) ⌝ }
+{
+    let room = out.len() / 24;
+    get_keys(pool, st, height, keys, out, room)
+}
+
+// Lists the live entries in a range, up or down, and tells how many nodes it opened.
+pub fn scan(
+    pool: &[u8],
+    st: Settings,
+    height: usize,
+    start: Bound,
+    end: Bound,
+    direction: Direction,
+    sift: Sift,
+    out: &mut [u8],
+) -> Scanned
+    requires { ⌜ InPool (now pool) st height ⌝ }
+    ensures { λ r. ⌜ Writes (look.scan (requestFor start end direction sift) (roomIn (now (out .entry))) (indexOf (now (pool .entry))) .listed) (now (out .entry)) (r .written) (r .more) (now (out .exit)) ⌝ }
+    ensures { λ r. ⌜ r .opened ≡ look.scan (requestFor start end direction sift) (roomIn (now (out .entry))) (indexOf (now (pool .entry))) .opened ⌝ }
+{
+    let q = Query {
+        start,
+        end,
+        direction,
+        sift,
+    };
+    let w = Scanned {
+        written: 0,
+        more: false,
+        opened: 0,
+    };
+    let room = out.len() / 24;
+    scan_node(pool, st, height, 0, q, out, room, w)
+}

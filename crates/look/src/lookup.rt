@@ -1,0 +1,102 @@
+// A multi-get: one descent for each key. (The Rust goes down once for all keys. A descent has at most eight nodes, and one that starts
+// anew needs no account of the way.)
+ghost use mathlib.Core.Path.{_≡_};
+ghost use mathlib.Core.Bool.{false};
+ghost use Prim.Native.Nat.{suc, _*_, _≤_, _<_};
+ghost use lib.ListN.{length};
+ghost use Rattle.words.specs.Words.{words};
+ghost use Rattle.slots.specs.Nodes.{nodes, rowsAt};
+ghost use Rattle.slots.specs.Search.{Sorted};
+ghost use Rattle.model.specs.Tree.{entries};
+ghost use Rattle.model.specs.Plain.{held};
+ghost use Rattle.model.specs.Look.{found, present};
+ghost use Rattle.tree.specs.Bridge.{treeAt};
+ghost use Rattle.look.specs.Output.{page, enlistAll, freshPage};
+ghost use Rattle.look.specs.Lookup.{Grown, Leads, Chosen};
+use crate::Listed;
+use crate::output::list_row;
+use crate::walk::child_of;
+use model::Settings;
+use slots::Found;
+
+// Lists the entries of the keys that are present, key after key, until the output is full and another is due.
+pub fn get_keys(
+    pool: &[u8],
+    st: Settings,
+    height: usize,
+    keys: &[u64],
+    out: &mut [u8],
+    room: usize,
+) -> Listed
+    requires { ⌜ Grown st (words (now pool)) height 0 ⌝ }
+    requires { ⌜ 24 * room ≤ length (now out) ⌝ }
+    ensures { λ r. ⌜ page (now (out .exit)) r ≡ enlistAll room (found (now (keys .entry)) (entries (suc height) (treeAt (nodes st (words (now (pool .entry)))) height 0))) (freshPage (now (out .entry))) ⌝ }
+{
+    let mut l = Listed {
+        written: 0,
+        more: false,
+    };
+    let mut k = 0;
+    while k < keys.len() && !l.more {
+        let key = keys[k];
+        l = get_key(pool, st, height, key, out, room, l);
+        k += 1;
+    }
+    l
+}
+
+// Lists the entry of one key, if the key is present: dead ones too.
+fn get_key(
+    pool: &[u8],
+    st: Settings,
+    height: usize,
+    key: u64,
+    out: &mut [u8],
+    room: usize,
+    l: Listed,
+) -> Listed
+    requires { ⌜ Grown st (words (now pool)) height 0 ⌝ }
+    requires { ⌜ 24 * room ≤ length (now out) ⌝ }
+    requires { ⌜ l .more ≡ false ⌝ }
+    ensures { λ r. ⌜ page (now (out .exit)) r ≡ enlistAll room (present key (held key (entries (suc height) (treeAt (nodes st (words (now (pool .entry)))) height 0)))) (page (now (out .entry)) l) ⌝ }
+{
+    let leaf = leaf_for(pool, st, height, key);
+    let sought = slots::search(pool, st, leaf, key);
+    match sought {
+        Found::At(i) => {
+            let row = slots::row_at(pool, st, leaf, i);
+            list_row(out, room, l, row)
+        }
+        Found::Before(_) => l,
+    }
+}
+
+// The leaf where a key stands, if it is present: down from the root, whose height falls to 0.
+fn leaf_for(pool: &[u8], st: Settings, height: usize, key: u64) -> usize
+    requires { ⌜ Grown st (words (now pool)) height 0 ⌝ }
+    ensures { λ r. ⌜ Leads st (words (now (pool .entry))) height key 0 r ⌝ }
+{
+    let mut s = 0;
+    let mut h = height;
+    while 0 < h {
+        let i = child_for(pool, st, s, key);
+        let row = slots::row_at(pool, st, s, i);
+        s = child_of(row);
+        h -= 1;
+    }
+    s
+}
+
+// The child of node `s` where a key goes on: the first whose separator is not below it, or the last.
+fn child_for(pool: &[u8], st: Settings, s: usize, key: u64) -> usize
+    requires { ⌜ Sorted st (words (now pool)) s ⌝ }
+    requires { ⌜ 0 < length (rowsAt st (words (now pool)) s) ⌝ }
+    ensures { λ r. ⌜ Chosen key (rowsAt st (words (now (pool .entry))) s) r ⌝ }
+{
+    let n = slots::count(pool, st, s);
+    let sought = slots::search(pool, st, s, key);
+    match sought {
+        Found::At(i) => i,
+        Found::Before(i) => if i < n { i } else { n - 1 },
+    }
+}

@@ -1,0 +1,103 @@
+-- A ROOT SPLIT, over the pool: what each call of `split_root` asks is there, and the last leaves the model's `splitRoot`. Assumes nothing.
+use mathlib.Core.Path.{_≡_, sym, ap, _∙_, subst}
+use mathlib.Core.List.{List}
+use Prim.Native.Nat.{ℕ, _<_}
+use native.Mathlib.Omega.{arith}
+use lib.ListN.{length}
+use Rattle.slots.specs.Nodes.{Now, nodes, nth, splitNodes}
+use Rattle.slots.specs.Nodes as S
+use Rattle.slots.specs.Search.{Below, Lowest}
+use Rattle.slots.proofs.Nodes.{length-nodes}
+use Rattle.model.specs.declared.Settings.{Settings}
+use Rattle.model.specs.Tree.{Tree}
+use Rattle.model.proofs.Lists.{all-head}
+use Rattle.model.proofs.Settles.{length-others}
+use Rattle.tree.specs.Bridge.{treeAt, unusedOf}
+use Rattle.settle.specs.Weigh.{Sums}
+use Rattle.settle.proofs.Places.{slot-at, node-used}
+use Rattle.root.specs.Roots.{Splits, Halved, Moves, moved, Moved, Crowns, crowned}
+use Rattle.root.proofs.Indexes.{pool-lowest, now-holds}
+use Rattle.root.proofs.Halves as H
+
+module _ {st : Settings} {W₀ : List ℕ} {h low : ℕ} (pre : Splits st W₀ h low) where
+  abbrev ns : List S.Node
+  ns = nodes st W₀
+
+  abbrev t : Tree h
+  t = treeAt (nodes st W₀) h 0
+
+  pub to-move : Moves st W₀ low
+  to-move =
+      record {
+        held = pre .keeps .held;
+        empty = pre .keeps .holds .blank;
+        lowest = pre .lowest;
+        used = node-used ns h 0 t (ap (nth ns) (sym (slot-at ns h 0)) ∙ all-head (pre .keeps .holds .tree));
+        some = omega (arith, pre .two);
+      }
+
+  module _ {W₁ : List ℕ} {a : ℕ} (mv : Moved st W₀ W₁ a) where
+    top : H.Top ns h t a
+    top =
+        record {
+          root = slot-at ns h 0;
+          holds = pre .keeps .holds .tree;
+          apart = pre .keeps .apart;
+          bounded = record { small = pre .keeps .small; fit = pre .keeps .fit };
+          empty = pre .keeps .holds .blank;
+          first = mv .slot;
+          inside = omega (arith, length-nodes st W₀, mv .inside);
+        }
+
+    pub below-lower : Below (nodes st W₁) a
+    below-lower = subst (λ (z : List S.Node). Below z a) (sym (mv .did .is)) (H.moved-below top)
+
+    module _ {b : ℕ} (lo : Lowest (nodes st W₁) b) where
+      b-nodes : b < st .nodes
+      b-nodes =
+          pool-lowest st W₁ b lo
+          (omega (arith, ap (λ (z : List S.Node). length (unusedOf z)) (mv .did .is), ap length (H.moved-unused top), length-others (unusedOf ns), pre .two))
+
+      second : Lowest (moved ns a) b
+      second = subst (λ (z : List S.Node). Lowest z b) (mv .did .is) lo
+
+      b-in : b < length (moved ns a)
+      b-in = omega (arith, length-nodes st W₁, ap length (mv .did .is), b-nodes)
+
+      pub to-split : S.Split st W₁ a b
+      to-split =
+          record {
+            held = mv .did .held;
+            slot = mv .inside;
+            slot2 = b-nodes;
+            apart = H.a-b top second b-in;
+            free = ap (λ (z : List S.Node). nth z b) (mv .did .is) ∙ H.b-unused top second b-in;
+          }
+
+      module _ {W₂ : List ℕ} (sp : Now st W₁ W₂ (splitNodes (nodes st W₁) a b)) where
+        split-is : nodes st W₂ ≡ splitNodes (moved ns a) a b
+        split-is = sp .is ∙ ap (λ (z : List S.Node). splitNodes z a b) (mv .did .is)
+
+        pub to-crown : Crowns st W₂ h a b
+        to-crown =
+            record {
+              held = sp .held;
+              slot = mv .inside;
+              slot2 = b-nodes;
+              sums = subst (λ (z : List S.Node). Sums h (nth z a .rows)) (sym split-is) (H.lower-sums top second b-in);
+              sums2 = subst (λ (z : List S.Node). Sums h (nth z b .rows)) (sym split-is) (H.upper-sums top second b-in);
+              bare = ap (λ (z : List S.Node). nth z 0 .rows) split-is ∙ H.split-bare top second b-in;
+            }
+
+        pub split-done : {W₃ : List ℕ} → Now st W₂ W₃ (crowned (nodes st W₂) h a b) → Halved st W₀ W₃ h b
+        split-done {W₃} cr =
+            let is : nodes st W₃ ≡ H.above top second b-in =
+            cr .is ∙ ap (λ (z : List S.Node). crowned z h a b) split-is ∙ H.crowned-is top second b-in in
+            record {
+              becomes = now-holds st W₀ W₃ (H.above top second b-in) _ (record { held = cr .held; is = is; header = cr .header ∙ sp .header ∙ mv .did .header })
+                  (H.above-holds top second b-in);
+              lowest = record {
+                within = omega (arith, b-nodes);
+                below = subst (λ (z : List S.Node). Below z b) (sym is) (H.above-below top second b-in);
+              };
+            }

@@ -1,0 +1,19 @@
+-- The laws, each file over those before it: `Weights` of the row of a node; `Zips`, `Places`, `Parents`, `Puts` of lists, readings and nodes written;
+-- `Recast` THE ONE LAW of settling, and its instances `Turns` with `Cuts` (two neighbours cut otherwise), `Halves`, `Merges`, `Outs`; then the steps put
+-- together: `Readings`, `Shares`, `Joins`, `Arms`.
+pub mod Weights
+pub mod Zips
+pub mod Places
+pub mod Parents
+pub mod Recast
+pub mod Puts
+pub mod Turns
+pub mod Cuts
+pub mod Focuses
+pub mod Halves
+pub mod Merges
+pub mod Outs
+pub mod Readings
+pub mod Shares
+pub mod Joins
+pub mod Arms

@@ -1,0 +1,88 @@
+-- Nodes of which one or two are replaced: what stands where, that unused slots stay blank, and which slots are unused. Assumes nothing.
+use mathlib.Core.Path.{_≡_, refl, sym, ap, _∙_}
+use mathlib.Core.Logic.{_≢_}
+use mathlib.Core.List.{List, [], _∷_}
+use Prim.Native.Nat.{ℕ, _≤_, _<_}
+use native.Mathlib.Omega.{arith}
+use native.Mathlib.Decide.{ℕ-discrete, decLt}
+use lib.ListN.{length, set, length-set}
+use lib.Seq.{getD-set-other, set-out}
+use Rattle.slots.specs.Nodes.{nodes, nth, unused, put2}
+use Rattle.slots.specs.Nodes as S
+use Rattle.slots.specs.Search.{Lowest}
+use Rattle.slots.proofs.Nodes.{nth-same, length-nodes}
+use Rattle.model.specs.declared.Settings.{Settings}
+use Rattle.model.specs.Lists.{times}
+use Rattle.model.proofs.Lists.{hit-same}
+use Rattle.tree.specs.Bridge.{unusedOf, Blank}
+use Rattle.tree.proofs.Unused.{used-none, unused-one, unused-past, unused-kept}
+use Rattle.settle.specs.Settle.{Low}
+
+-- WHAT STANDS WHERE
+
+module _ (ns : List S.Node) (t : ℕ) (x : S.Node) (s : ℕ) (y : S.Node) where
+  pub put-first : t ≢ s → t < length ns → nth (put2 ns t x s y) t ≡ x
+  put-first ne h = getD-set-other (set ns t x) s t y unused ne ∙ nth-same ns t x h
+
+  pub put-second : s < length ns → nth (put2 ns t x s y) s ≡ y
+  put-second h = nth-same (set ns t x) s y (omega (arith, h, length-set ns t x))
+
+  pub put-other : (z : ℕ) → z ≢ t → z ≢ s → nth (put2 ns t x s y) z ≡ nth ns z
+  put-other z a b = getD-set-other (set ns t x) s z y unused b ∙ getD-set-other ns t z x unused a
+
+  pub length-put : length (put2 ns t x s y) ≡ length ns
+  length-put = length-set (set ns t x) s y ∙ length-set ns t x
+
+  -- two nodes of the kinds that were there
+  pub unused-put : t ≢ s → x .kind ≡ nth ns t .kind → y .kind ≡ nth ns s .kind → unusedOf (put2 ns t x s y) ≡ unusedOf ns
+  unused-put ne ex ey =
+      unused-kept (set ns t x) s y (ey ∙ ap (λ (n : S.Node). n .kind) (sym (getD-set-other ns t s x unused (λ e. ne (sym e))))) ∙ unused-kept ns t x ex
+
+-- UNUSED SLOTS STAY BLANK
+
+pub blank-set : (ns : List S.Node) (t : ℕ) (x : S.Node) → Blank ns → (x .kind ≡ 0 → x ≡ unused) → Blank (set ns t x)
+blank-set ns t x f g z k = by (ℕ-discrete z t) (decLt t (length ns))
+  where
+    by : Dec (z ≡ t) → Dec (t < length ns) → nth (set ns t x) z ≡ unused
+    by (no ne) d = let e : nth (set ns t x) z ≡ nth ns z = getD-set-other ns t z x unused ne in e ∙ f z (ap (λ (n : S.Node). n .kind) (sym e) ∙ k)
+    by (yes e) (yes h) =
+        let q : nth (set ns t x) z ≡ x = ap (nth (set ns t x)) e ∙ nth-same ns t x h in
+        q ∙ g (ap (λ (n : S.Node). n .kind) (sym q) ∙ k)
+    by (yes e) (no h) =
+        let le : length ns ≤ t = omega arith in
+        let q : nth (set ns t x) z ≡ nth ns z = ap (λ (l : List S.Node). nth l z) (set-out ns t x le) in
+        q ∙ f z (ap (λ (n : S.Node). n .kind) (sym q) ∙ k)
+
+-- WHICH ARE UNUSED
+
+pub low-none : (st : Settings) (ns : List S.Node) (low : ℕ) → Low st ns low → (x : ℕ) → x < low → times x (unusedOf ns) ≡ 0
+low-none st ns low l x h = used-none ns x (l .below x h)
+
+pub low-from : (st : Settings) (W : List ℕ) (low : ℕ) → low ≤ st .nodes → ((x : ℕ) → x < low → times x (unusedOf (nodes st W)) ≡ 0) → Low st (nodes st W) low
+low-from st W low le f =
+    record {
+      within = le;
+      below = λ x h z. absurd (omega (arith, f x h, unused-one (nodes st W) x (omega (arith, le, h, length-nodes st W)) z));
+    }
+
+-- unused slots that are as they were
+pub low-same : (st : Settings) (W W′ : List ℕ) (low : ℕ) → Low st (nodes st W) low → unusedOf (nodes st W′) ≡ unusedOf (nodes st W) → Low st (nodes st W′) low
+low-same st W W′ low l e = low-from st W′ low (l .within) (λ x h. ap (times x) e ∙ low-none st (nodes st W) low l x h)
+
+-- where a slot is unused, the lowest is one of the pool's
+pub lowest-in : (ns : List S.Node) (r : ℕ) → Lowest ns r → 1 ≤ length (unusedOf ns) → r < length ns
+lowest-in ns r l some = by (decLt r (length ns)) (unusedOf ns) refl some
+  where
+    none-there : (length ns ≤ r) → (x : ℕ) → times x (unusedOf ns) ≡ 0
+    none-there le x = of (decLt x r)
+      where
+        of : Dec (x < r) → times x (unusedOf ns) ≡ 0
+        of (yes h) = used-none ns x (l .before x h)
+        of (no h) = unused-past ns x (omega arith)
+
+    by : Dec (r < length ns) → (us : List ℕ) → unusedOf ns ≡ us → 1 ≤ length us → r < length ns
+    by (yes h) us e g = h
+    by (no h) [] e g = absurd (omega arith)
+    by (no h) (u ∷ us) e g =
+        let le : length ns ≤ r = omega arith in
+        absurd (omega (arith, none-there le u, ap (times u) e, hit-same u u refl))

@@ -1,0 +1,238 @@
+-- What the walk from the root tells: the nodes are sound exactly where the root's tree is right and has as many nodes as are in use; and what the
+-- survey makes of it. Assumes nothing.
+use mathlib.Core.Path.{_≡_, refl, sym, ap, _∙_, subst}
+use mathlib.Core.Bool.{Bool, true, false, cond, true≢false}
+use mathlib.Core.List.{List, [], _∷_, _++_}
+use Prim.Native.Nat.{ℕ, zero, suc, _+_, _-_, _≤_, _<_}
+use native.Mathlib.Omega.{arith}
+use native.Mathlib.Decide.{decLt, ℕ-discrete}
+use lib.Dec.{ltb, eqb}
+use lib.ListN.{length, length-append, List·getD-eq-default}
+use borrow.Author.Tests.{lt-ltb, le-ltb, eqb-true, eq-eqb}
+use Rattle.words.specs.Words.{words}
+use Rattle.slots.specs.Nodes.{nth, unused, nodes, rawFor}
+use Rattle.slots.specs.Nodes as S
+use Rattle.slots.specs.Search.{Lowest}
+use Rattle.slots.proofs.Nodes.{node-raw, length-nodes}
+use Rattle.slots.proofs.Canons.{canon-zero, zero-unused}
+use Rattle.model.specs.declared.Settings.{Settings}
+use Rattle.model.specs.Answer.{Tells}
+use Rattle.model.specs.Lists.{times}
+use Rattle.model.specs.Tree.{Tree, len, slots, entriesOf, slotsOf}
+use Rattle.model.specs.Sound.{Whole, Rooted, Once}
+use Rattle.model.proofs.Answers.{tells-no, tells-yes, tells-unique}
+use Rattle.model.proofs.Lists.{all-every, by-test, times-append}
+use Rattle.model.proofs.Trees.{once-count, slots-leaf}
+use Rattle.tree.specs.Bridge.{treeAt, unusedFrom, unusedOf, Holds}
+use Rattle.tree.specs.Pool.{heightAt, indexIn, settingsIn, nodesIn, indexOf, Zeros, SoundNodes, SoundPool}
+use Rattle.tree.proofs.Counts.{times-all}
+use Rattle.tree.proofs.Cells.{used-tree}
+use Rattle.tree.proofs.Few.{root-few}
+use Rattle.tree.proofs.SoundHolds.{read-holds}
+use Rattle.tree.proofs.Unused.{used-none, unused-past, unused-once}
+use Rattle.survey.specs.declared.Findings.{Findings}
+use Rattle.survey.specs.declared.walk.Part.{Part}
+use Rattle.survey.specs.Surveyed.{Surveyed, Headed, unsound}
+use Rattle.survey.specs.Spared.{Idle}
+use Rattle.survey.specs.Checked.{unmet, Tail, Right, Checked, leastRoot, SoundTree}
+use Rattle.survey.proofs.Places.{hit-most, each-once}
+use Rattle.survey.proofs.Apart.{slots-once}
+
+-- THE ROOT has its own least number of items
+
+root-to : (st : Settings) (h : ℕ) (t : Tree h) → leastRoot h ≤ len t → len t ≤ st .order → Rooted st h t
+root-to st zero t some few = few
+root-to st (suc h) t some few = (some, few)
+
+root-some : (st : Settings) (h : ℕ) (t : Tree h) → Rooted st h t → leastRoot h ≤ len t
+root-some st zero t r = omega arith
+root-some st (suc h) t r = r .0
+
+-- EACH SLOT ONCE
+
+root-once : (st : Settings) (W : List ℕ) (h used : ℕ) → h ≤ 7 → Right st W h 0 (leastRoot h) unmet used → (x : ℕ) → times x (slots (suc h) (treeAt (nodes st W) h 0)) ≤ 1
+root-once st W zero used le g x = omega (arith, hit-most x 0, slots-leaf x (treeAt (nodes st W) zero 0 .items))
+root-once st W (suc h) used le g x =
+    let whole : Whole st (suc (suc h)) (treeAt (nodes st W) (suc h) 0) = (record { some = omega (arith, g .some); few = g .few }, g .whole) in
+    slots-once st (nodes st W) x (suc h) 0 (omega arith) (g .kinds) whole (g .sorted)
+
+module _ (st : Settings) (W : List ℕ) (h used : ℕ) (counted : used + length (unusedOf (nodes st W)) ≡ st .nodes) (le : h ≤ 7)
+    (g : Right st W h 0 (leastRoot h) unmet used) (full : length (slots (suc h) (treeAt (nodes st W) h 0)) ≡ used) where
+  abbrev ns : List S.Node
+  ns = nodes st W
+
+  abbrev reached : List ℕ
+  reached = slots (suc h) (treeAt ns h 0)
+
+  abbrev both : List ℕ
+  both = reached ++ unusedOf ns
+
+  -- a slot that is reached is in use
+  in-use : (x : ℕ) → 0 < times x reached → (nth ns x .kind ≡ 0 → ⊥)
+  in-use x some = used-tree ns h (treeAt ns h 0) (read-holds ns h 0 (g .kinds) (g .separators) (g .totals)) x some
+
+  both-apart : (x : ℕ) → times x both ≤ 1
+  both-apart x = by (decLt 0 (times x reached))
+    where
+      by : Dec (0 < times x reached) → times x both ≤ 1
+      by (yes some) = omega (arith, times-append x reached (unusedOf ns), root-once st W h used le g x, used-none ns x (in-use x some))
+      by (no none) = omega (arith, times-append x reached (unusedOf ns), unused-once ns x)
+
+  both-low : (x : ℕ) → st .nodes ≤ x → times x both ≡ 0
+  both-low x ge = by (decLt 0 (times x reached))
+    where
+      past : length ns ≤ x
+      past = omega (arith, length-nodes st W)
+
+      by : Dec (0 < times x reached) → times x both ≡ 0
+      by (yes some) = absurd (in-use x some (ap (λ (n : S.Node). n .kind) (List·getD-eq-default ns unused past)))
+      by (no none) = omega (arith, times-append x reached (unusedOf ns), unused-past ns x past)
+
+  reached-once : Once (st .nodes) reached (unusedOf ns)
+  reached-once x = sym (times-append x reached (unusedOf ns)) ∙ by (decLt x (st .nodes))
+    where
+      long : length both ≡ st .nodes
+      long = omega (arith, length-append reached (unusedOf ns), full, counted)
+
+      by : Dec (x < st .nodes) → times x both ≡ cond (ltb x (st .nodes)) 1 0
+      by (yes lt) = each-once (st .nodes) both both-apart both-low long x lt ∙ rw (lt-ltb x (st .nodes) lt) refl
+      by (no ge) = let past : st .nodes ≤ x = omega arith in both-low x past ∙ rw (le-ltb x (st .nodes) past) refl
+
+-- THE TREE
+
+module _ (st : Settings) (W : List ℕ) (used : ℕ) (counted : used + length (unusedOf (nodes st W)) ≡ st .nodes) where
+  abbrev high : ℕ
+  high = heightAt (nodes st W) 8 0
+
+  abbrev root-tree : Tree high
+  root-tree = treeAt (nodes st W) high 0
+
+  pub right-sound : high ≤ 7 → Right st W high 0 (leastRoot high) unmet used → length (slots (suc high) root-tree) ≡ used → SoundTree st W
+  right-sound le g full =
+      record {
+        sound = record {
+          once = reached-once st W high used counted le g full;
+          kinds = g .kinds;
+          shallow = omega arith;
+          rooted = root-to st high root-tree (g .some) (g .few);
+          whole = g .whole;
+          sorted = g .sorted;
+          fit = g .fit;
+          separators = g .separators;
+          totals = g .totals;
+        };
+        tails = g .tails;
+      }
+
+  pub sound-full : SoundTree st W → length (slots (suc high) root-tree) ≡ used
+  sound-full s = omega (arith, once-count (st .nodes) (slotsOf (indexIn (nodes st W))) (unusedOf (nodes st W)) (s .sound .once), counted)
+
+  pub sound-right : SoundTree st W → Right st W high 0 (leastRoot high) unmet used
+  sound-right s =
+      let n : SoundNodes st (nodes st W) = s .sound in
+      record {
+        kinds = n .kinds;
+        some = root-some st high root-tree (n .rooted);
+        few = root-few st high root-tree (n .rooted);
+        whole = n .whole;
+        sorted = n .sorted;
+        beyond = all-every (entriesOf (indexIn (nodes st W))) (λ e q. absurd (true≢false (sym q)));
+        fit = n .fit;
+        separators = n .separators;
+        totals = n .totals;
+        tails = s .tails;
+        most = omega (arith, sound-full s);
+      }
+
+  -- what the walk from the root found
+  module _ (h : ℕ) (root : Part) (edge : h ≡ high) (chk : Checked st W h 0 (leastRoot h) unmet used root) where
+    at-high : Checked st W high 0 (leastRoot high) unmet used root
+    at-high = subst (λ (g : ℕ). Checked st W g 0 (leastRoot g) unmet used root) edge chk
+
+    pub verdict-fault : root .ok ≡ false → SoundTree st W → ⊥
+    verdict-fault e s = true≢false (sym (at-high .ok .told (sound-right s)) ∙ e)
+
+    pub verdict-tells : h ≤ 7 → root .ok ≡ true → Tells (eqb (root .left) 0) (SoundTree st W)
+    verdict-tells le e =
+        record {
+          holds = λ z. right-sound (omega (arith, edge)) (at-high .ok .holds e) (omega (arith, at-high .rest e, eqb-true (root .left) 0 z));
+          told = λ s. eq-eqb (root .left) 0 (omega (arith, at-high .rest e, sound-full s));
+        }
+
+pub verdict-deep : (st : Settings) (W : List ℕ) (h : ℕ) → h ≡ heightAt (nodes st W) 8 0 → 7 < h → SoundTree st W → ⊥
+verdict-deep st W h e lt s = omega (arith, s .sound .shallow)
+
+-- THE SURVEY
+
+pub unused-few : (a : ℕ) (ns : List S.Node) → length (unusedFrom a ns) ≤ length ns
+unused-few a [] = omega arith
+unused-few a (n ∷ ns) =
+    by-test (λ (l : List ℕ). length l ≤ suc (length ns)) (eqb (n .kind) 0) (λ e. omega (arith, unused-few (suc a) ns)) (λ e. omega (arith, unused-few (suc a) ns))
+
+pub survey-not : (l : List ℕ) (r : Findings) → r ≡ unsound → (SoundPool l → ⊥) → Surveyed l r
+survey-not l r e f =
+    let off : r .sound ≡ false = ap (λ (x : Findings). x .sound) e in
+    let never : (A : Type 0) → r .sound ≡ true → A = λ A t. absurd (true≢false (sym t ∙ off)) in
+    record {
+      sound = record { holds = λ t. never _ t; told = λ s. absurd (f s) };
+      height = λ t. never _ t;
+      unused = λ t. never _ t;
+      low = λ t. never _ t;
+      nothing = λ t. e;
+    }
+
+-- in a sound tree each slot in use is reached, so all slots have their zeros
+all-zeros : (st : Settings) (W : List ℕ) → ((s : ℕ) → Idle st W s) → SoundTree st W → (s : ℕ) → Zeros st W s
+all-zeros st W idle t s = by (ℕ-discrete (nth (nodes st W) s .kind) 0)
+  where
+    by : Dec (nth (nodes st W) s .kind ≡ 0) → Zeros st W s
+    by (yes z) = record { tail = canon-zero st W s (idle s z); whole = λ q. zero-unused st W s (idle s z) }
+    by (no used) = record { tail = times-all (Tail st W) (t .tails) s (reached (decLt s (st .nodes))); whole = λ q. absurd (used q) }
+      where
+        reached : Dec (s < st .nodes) → 0 < times s (slotsOf (indexIn (nodes st W)))
+        reached (yes lt) =
+            let one : times s (slotsOf (indexIn (nodes st W))) + times s (unusedOf (nodes st W)) ≡ 1 = t .sound .once s ∙ rw (lt-ltb s (st .nodes) lt) refl in
+            omega (arith, used-none (nodes st W) s used)
+        reached (no ge) =
+            let past : length (nodes st W) ≤ s = omega (arith, length-nodes st W) in
+            absurd (used (ap (λ (n : S.Node). n .kind) (List·getD-eq-default (nodes st W) unused past)))
+
+pub sound-pool : (l : List ℕ) → Headed l → ((s : ℕ) → Idle (settingsIn l) (words l) s) → SoundTree (settingsIn l) (words l) → SoundPool l
+sound-pool l h idle t =
+    record { layout = h .layout; settings = h .settings; exact = h .exact; nodes = t .sound; zeros = all-zeros (settingsIn l) (words l) idle t }
+
+-- and conversely
+pub pool-headed : (l : List ℕ) → SoundPool l → Headed l
+pool-headed l s = record { layout = s .layout; settings = s .settings; exact = s .exact }
+
+pub pool-idle : (l : List ℕ) → SoundPool l → (s : ℕ) → Idle (settingsIn l) (words l) s
+pool-idle l p s z =
+    let st : Settings = settingsIn l in
+    p .zeros s .tail .same ∙ ap (rawFor (st .order)) (node-raw st (words l) s ∙ p .zeros s .whole z)
+
+pub pool-tree : (l : List ℕ) → SoundPool l → SoundTree (settingsIn l) (words l)
+pool-tree l p = record { sound = p .nodes; tails = all-every (slotsOf (indexOf l)) (λ s. p .zeros s .tail) }
+
+-- two answers that meet the promise are one
+lowest-same : (ns : List S.Node) (a b : ℕ) → Lowest ns a → Lowest ns b → a ≡ b
+lowest-same ns a b x y = by (decLt a b) (decLt b a)
+  where
+    by : Dec (a < b) → Dec (b < a) → a ≡ b
+    by (yes lt) q = absurd (y .before a lt (x .here (omega (arith, y .within))))
+    by (no ge) (yes lt) = absurd (x .before b lt (y .here (omega (arith, x .within))))
+    by (no ge) (no le) = omega arith
+
+pub sound-told : (l : List ℕ) (q r : Findings) → Surveyed l q → Surveyed l r → q ≡ r
+sound-told l q r a b = by (q .sound) refl
+  where
+    same : q .sound ≡ r .sound
+    same = tells-unique (a .sound) (b .sound)
+
+    by : (t : Bool) → q .sound ≡ t → q ≡ r
+    by true e =
+        let f : r .sound ≡ true = sym same ∙ e in
+        let height : q .height ≡ r .height = a .height e ∙ sym (b .height f) in
+        let unused : q .unused ≡ r .unused = a .unused e ∙ sym (b .unused f) in
+        let low : q .low ≡ r .low = lowest-same (nodesIn l) (q .low) (r .low) (a .low e) (b .low f) in
+        λ j. record { sound = same j; height = height j; unused = unused j; low = low j }
+    by false e = a .nothing e ∙ sym (b .nothing (sym same ∙ e))

@@ -1,0 +1,291 @@
+-- `check_interior` and `check_node`, which call each other, meet their contracts, by recursion on the height. The loop's invariant: what the walk owes
+-- from row `i` on is what it owed at the start (`Going`). Assumes nothing.
+use mathlib.Core.Path.{_≡_, sym, ap, _∙_, subst}
+use mathlib.Core.List.{List}
+use Prim.Native.Nat.{ℕ, suc, _+_, _-_, _*_, _<_}
+use native.Mathlib.Omega.{arith}
+use lib.ListN.{length, getD}
+use borrow.Author.Needs.{needs}
+use borrow.Author.Tests.{not-true, not-false}
+use borrow.Fn.Kinds.{In}
+use borrow.Fn.PlainCycle.{Measures, is, falls, and}
+use Rattle.words.specs.Words.{words}
+use Rattle.slots.specs.declared.Row.{Row}
+use Rattle.slots.specs.Slots.{blank}
+use Rattle.slots.specs.Nodes.{rowsAt}
+use Rattle.model.proofs.Answers.{told-no}
+use Rattle.tree.specs.Bridge.{childOf}
+use Rattle.survey.specs.declared.walk.Part.{Part}
+use Rattle.survey.specs.Checked.{Last, last, Head, Right, Checked, RowRight}
+use Rattle.survey.proofs.Rows.{right-rows, right-head, right-tail}
+use Rattle.survey.proofs.Walks.{Going, going-none, checked-not, checked-end, turn-fault, turn-addable, turn-on}
+use Rattle.survey.proofs.Heads.{row-raw, head-count, tail-told}
+use Rattle.survey.proofs.walk.check_interior.Reads as check-interior
+use Rattle.survey.proofs.walk.check_interior.Kinds as check-interior-kinds
+use Rattle.survey.proofs.walk.+check_interior+check_node.Lts-check_interior as check-interior-lts
+use Rattle.survey.proofs.walk.check_node.Reads as check-node
+use Rattle.survey.proofs.walk.check_node.Kinds as check-node-kinds
+use Rattle.survey.proofs.walk.+check_interior+check_node.Lts-check_node as check-node-lts
+use Rattle.slots.proofs.raw_count.Reads as raw-count-reads
+use Rattle.slots.proofs.raw_row.Reads as raw-row-reads
+use Rattle.slots.proofs.tail_zero.Reads as tail-zero-reads
+use Rattle.survey.proofs.walk.begin.Reads as begin-reads
+use Rattle.survey.proofs.walk.check_leaf.Reads as check-leaf-reads
+use Rattle.survey.proofs.walk.child_of.Reads as child-of-reads
+use Rattle.survey.proofs.walk.fault.Reads as fault-reads
+use Rattle.survey.proofs.walk.grow.Reads as grow-reads
+use Rattle.survey.proofs.walk.head_right.Reads as head-right-reads
+use Rattle.survey.proofs.walk.row_right.Reads as row-right-reads
+use Rattle.survey.proofs.walk.+check_interior+check_node.{statement}
+use Rattle.survey.proofs.walk.+check_interior+check_node.Tie.{close}
+
+abbrev μ-check-interior : Measures 1 check-interior-kinds.ps ℕ
+μ-check-interior κs a = 2 * a .1 .1 .0
+
+abbrev μ-check-node : Measures 1 check-node-kinds.ps ℕ
+μ-check-node κs a = 2 * a .1 .1 .0 + 1
+
+abbrev check-interior-at : ℕ → In 1 check-interior-kinds.ps
+check-interior-at t =
+    and
+    1
+    check-interior-kinds.ps
+    (is 1 check-interior-kinds.ps μ-check-interior t)
+    check-interior.Pre
+
+abbrev check-interior-below : ℕ → In 1 check-interior-kinds.ps
+check-interior-below t =
+    and
+    1
+    check-interior-kinds.ps
+    (falls 1 check-interior-kinds.ps _<_ μ-check-interior t)
+    check-interior.Pre
+
+abbrev check-node-at : ℕ → In 1 check-node-kinds.ps
+check-node-at t =
+    and 1 check-node-kinds.ps (is 1 check-node-kinds.ps μ-check-node t) check-node.Pre
+
+abbrev check-node-below : ℕ → In 1 check-node-kinds.ps
+check-node-below t =
+    and 1 check-node-kinds.ps (falls 1 check-node-kinds.ps _<_ μ-check-node t) check-node.Pre
+
+abbrev Inv : check-interior-lts.InvT-loop
+Inv pool st height s least some key left n part₀ met₀ i₀ part met i =
+    Going st (words pool) (suc (height - 1)) (rowsAt st (words pool) s) (last some key) (left - 1) i met part
+
+abbrev μ : check-interior-lts.MeasureT-loop
+μ pool st height s least some key left n part₀ met₀ i₀ part met i = n - i
+
+-- what the calls ask for and tell
+abbrev interior-calls : ℕ → check-interior-lts.Claims
+interior-calls t =
+    (head-right-reads.Asked, head-right-reads.Learnt, fault-reads.Asked, fault-reads.Learnt, raw-count-reads.Asked, raw-count-reads.Learnt, begin-reads.Asked, begin-reads.Learnt, raw-row-reads.Asked, raw-row-reads.Learnt, child-of-reads.Asked, child-of-reads.Learnt, check-node-below t, check-node.Post, row-right-reads.Asked, row-right-reads.Learnt, grow-reads.Asked, grow-reads.Learnt, tail-zero-reads.Asked, tail-zero-reads.Learnt)
+
+abbrev node-calls : ℕ → check-node-lts.Claims
+node-calls t = (check-leaf-reads.Asked, check-leaf-reads.Learnt, check-interior-below t, check-interior.Post)
+
+-- check_interior
+
+returns : (t : ℕ) → check-interior-lts.Need-returns (interior-calls t) (check-interior-at t) check-interior.Post Inv μ
+returns t c =
+    let a = c .before .before .before .before .args in
+    let W = words (a .pool .now) in
+    let rs : List Row = rowsAt (a .st) W (a .s) in
+    checked-not (a .st) W (a .height) (a .s) (a .least) (last (a .some) (a .key)) (a .left) (c .fault .result) (c .fault .ensures)
+    (λ k. told-no (c .before .before .head-right .ensures) (not-true (c .before .before .head-right .result) (c .before .if1 .taken))
+    (right-head (a .st) W (a .height) (a .s) (a .least) (last (a .some) (a .key)) (a .left) k))
+
+raw-count-requires : (t : ℕ) → check-interior-lts.Need-raw-count-requires (interior-calls t) (check-interior-at t) check-interior.Post Inv μ
+raw-count-requires t c κs =
+    let a = c .before .before .before .args in
+    let W = words (a .pool .now) in
+    let rs : List Row = rowsAt (a .st) W (a .s) in
+    let head : Head (a .st) W (a .height) (a .s) (a .least) (a .left) = c .before .head-right .ensures .holds (not-false (c .before .head-right .result) (c .if1 .left)) in
+    (c .before .before .before .pre .1 .0, head .slot)
+
+sub-begin : (t : ℕ) → check-interior-lts.Need-sub-begin (interior-calls t) (check-interior-at t) check-interior.Post Inv μ
+sub-begin t c =
+    let a = c .before .before .before .before .args in
+    let W = words (a .pool .now) in
+    let rs : List Row = rowsAt (a .st) W (a .s) in
+    let head : Head (a .st) W (a .height) (a .s) (a .least) (a .left) = c .before .before .head-right .ensures .holds (not-false (c .before .before .head-right .result) (c .before .if1 .left)) in
+    omega (arith, head .opens)
+
+loop-holds : (t : ℕ) → check-interior-lts.Need-loop-holds (interior-calls t) (check-interior-at t) check-interior.Post Inv μ
+loop-holds t c =
+    let a = c .before .before .before .before .before .args in
+    let W = words (a .pool .now) in
+    let rs : List Row = rowsAt (a .st) W (a .s) in
+    rw (c .begin .ensures) (going-none (a .st) W (suc (a .height - 1)) rs (a .some) (a .key) (a .left - 1))
+
+raw-row-requires : (t : ℕ) → check-interior-lts.Need-raw-row-requires (interior-calls t) (check-interior-at t) check-interior.Post Inv μ
+raw-row-requires t c κs =
+    let a = c .before .before .before .before .before .before .before .args in
+    let W = words (a .pool .now) in
+    let rs : List Row = rowsAt (a .st) W (a .s) in
+    let head : Head (a .st) W (a .height) (a .s) (a .least) (a .left) = c .before .before .before .before .before .head-right .ensures .holds (not-false (c .before .before .before .before .before .head-right .result) (c .before .before .before .before .if1 .left)) in
+    let n : c .before .before .before .raw-count .result ≡ length rs = c .before .before .before .raw-count .ensures ∙ head-count (a .st) W (a .s) (c .before .before .before .before .before .before .before .pre .1 .0 .limits .wide) (head .few) in
+    record { shape = c .before .before .before .before .before .before .before .pre .1 .0; slot = head .slot; within = omega (arith, head .few) }
+
+sub-check-node : (t : ℕ) → check-interior-lts.Need-sub-check-node (interior-calls t) (check-interior-at t) check-interior.Post Inv μ
+sub-check-node t c = omega (arith, c .before .before .before .before .before .before .before .before .pre .1 .1)
+
+check-node-requires : (t : ℕ) → check-interior-lts.Need-check-node-requires (interior-calls t) (check-interior-at t) check-interior.Post Inv μ
+check-node-requires t c κs = (omega (arith, c .before .before .before .before .before .before .before .before .before .pre .0, c .before .before .before .before .before .before .before .before .before .pre .1 .1), c .before .before .before .before .before .before .before .before .before .pre .1 .0)
+
+returns-2 : (t : ℕ) → check-interior-lts.Need-returns-2 (interior-calls t) (check-interior-at t) check-interior.Post Inv μ
+returns-2 t c =
+    let a = c .before .before .before .before .before .before .before .before .before .before .before .before .before .args in
+    let W = words (a .pool .now) in
+    let rs : List Row = rowsAt (a .st) W (a .s) in
+    let head : Head (a .st) W (a .height) (a .s) (a .least) (a .left) = c .before .before .before .before .before .before .before .before .before .before .before .head-right .ensures .holds (not-false (c .before .before .before .before .before .before .before .before .before .before .before .head-right .result) (c .before .before .before .before .before .before .before .before .before .before .if1 .left)) in
+    let n : c .before .before .before .before .before .before .before .before .before .raw-count .result ≡ length rs = c .before .before .before .before .before .before .before .before .before .raw-count .ensures ∙ head-count (a .st) W (a .s) (c .before .before .before .before .before .before .before .before .before .before .before .before .before .pre .1 .0 .limits .wide) (head .few) in
+    let at = c .before .before .before .before .before .before .before .loop in
+    let q : Last = last (at .met) (at .part .last) in
+    let child : Part = c .before .before .before .check-node .result in
+    let lt : at .i < length rs = omega arith in
+    let row : c .before .before .before .before .before .raw-row .result ≡ getD rs (at .i) blank = c .before .before .before .before .before .raw-row .ensures ∙ row-raw (a .st) W (a .s) (at .i) (omega (arith, c .before .before .before .before .before .before .before .before .before .raw-count .ensures)) in
+    let slot : c .before .before .before .before .child-of .result ≡ childOf (getD rs (at .i) blank) = c .before .before .before .before .child-of .ensures ∙ ap childOf row in
+    let chk : Checked (a .st) W (a .height - 1) (childOf (getD rs (at .i) blank)) 1 q (at .part .left) child =
+    subst (λ (s : ℕ). Checked (a .st) W (a .height - 1) s 1 q (at .part .left) child) slot (c .before .before .before .check-node .ensures) in
+    let high : a .height ≡ suc (a .height - 1) = omega (arith, c .before .before .before .before .before .before .before .before .before .before .before .before .before .pre .1 .1) in
+    let wrong : RowRight (getD rs (at .i) blank) child → ⊥ =
+    λ k. told-no (c .before .before .row-right .ensures) (not-true (c .before .before .row-right .result) (c .before .if2 .taken)) (rw row k) in
+    checked-not (a .st) W (a .height) (a .s) (a .least) (last (a .some) (a .key)) (a .left) (c .fault2 .result) (c .fault2 .ensures)
+    (λ k. turn-fault (a .st) W (a .height - 1) rs (last (a .some) (a .key)) (a .left - 1) (at .i) (at .met) (at .part) child (at .inv) lt chk wrong
+    (right-rows (a .st) W (suc (a .height - 1)) (a .s) (a .least) (last (a .some) (a .key)) (a .left)
+    (subst (λ (h : ℕ). Right (a .st) W h (a .s) (a .least) (last (a .some) (a .key)) (a .left)) high k)))
+
+grow-requires : (t : ℕ) → check-interior-lts.Need-grow-requires (interior-calls t) (check-interior-at t) check-interior.Post Inv μ
+grow-requires t c κs =
+    let a = c .before .before .before .before .before .before .before .before .before .before .before .before .args in
+    let W = words (a .pool .now) in
+    let rs : List Row = rowsAt (a .st) W (a .s) in
+    let head : Head (a .st) W (a .height) (a .s) (a .least) (a .left) = c .before .before .before .before .before .before .before .before .before .before .head-right .ensures .holds (not-false (c .before .before .before .before .before .before .before .before .before .before .head-right .result) (c .before .before .before .before .before .before .before .before .before .if1 .left)) in
+    let n : c .before .before .before .before .before .before .before .before .raw-count .result ≡ length rs = c .before .before .before .before .before .before .before .before .raw-count .ensures ∙ head-count (a .st) W (a .s) (c .before .before .before .before .before .before .before .before .before .before .before .before .pre .1 .0 .limits .wide) (head .few) in
+    let at = c .before .before .before .before .before .before .loop in
+    let q : Last = last (at .met) (at .part .last) in
+    let child : Part = c .before .before .check-node .result in
+    let lt : at .i < length rs = omega arith in
+    let row : c .before .before .before .before .raw-row .result ≡ getD rs (at .i) blank = c .before .before .before .before .raw-row .ensures ∙ row-raw (a .st) W (a .s) (at .i) (omega (arith, c .before .before .before .before .before .before .before .before .raw-count .ensures)) in
+    let slot : c .before .before .before .child-of .result ≡ childOf (getD rs (at .i) blank) = c .before .before .before .child-of .ensures ∙ ap childOf row in
+    let chk : Checked (a .st) W (a .height - 1) (childOf (getD rs (at .i) blank)) 1 q (at .part .left) child =
+    subst (λ (s : ℕ). Checked (a .st) W (a .height - 1) s 1 q (at .part .left) child) slot (c .before .before .check-node .ensures) in
+    let told : RowRight (getD rs (at .i) blank) child =
+    subst (λ (r : Row). RowRight r child) row (c .before .row-right .ensures .holds (not-false (c .before .row-right .result) (c .if2 .left))) in
+    turn-addable (a .st) W (a .height - 1) rs (last (a .some) (a .key)) (a .left - 1) (at .i) (at .met) (at .part) child (at .inv) lt chk told
+    (omega (arith, head .few, c .before .before .before .before .before .before .before .before .before .before .before .before .pre .1 .0 .limits .narrow))
+
+add-i : (t : ℕ) → check-interior-lts.Need-add-i (interior-calls t) (check-interior-at t) check-interior.Post Inv μ
+add-i t c = omega arith
+
+loop-less : (t : ℕ) → check-interior-lts.Need-loop-less (interior-calls t) (check-interior-at t) check-interior.Post Inv μ
+loop-less t c = omega arith
+
+loop-again : (t : ℕ) → check-interior-lts.Need-loop-again (interior-calls t) (check-interior-at t) check-interior.Post Inv μ
+loop-again t c =
+    let a = c .before .before .before .before .before .before .before .before .before .before .before .before .before .args in
+    let W = words (a .pool .now) in
+    let rs : List Row = rowsAt (a .st) W (a .s) in
+    let head : Head (a .st) W (a .height) (a .s) (a .least) (a .left) = c .before .before .before .before .before .before .before .before .before .before .before .head-right .ensures .holds (not-false (c .before .before .before .before .before .before .before .before .before .before .before .head-right .result) (c .before .before .before .before .before .before .before .before .before .before .if1 .left)) in
+    let n : c .before .before .before .before .before .before .before .before .before .raw-count .result ≡ length rs = c .before .before .before .before .before .before .before .before .before .raw-count .ensures ∙ head-count (a .st) W (a .s) (c .before .before .before .before .before .before .before .before .before .before .before .before .before .pre .1 .0 .limits .wide) (head .few) in
+    let at = c .before .before .before .before .before .before .before .loop in
+    let q : Last = last (at .met) (at .part .last) in
+    let child : Part = c .before .before .before .check-node .result in
+    let lt : at .i < length rs = omega arith in
+    let row : c .before .before .before .before .before .raw-row .result ≡ getD rs (at .i) blank = c .before .before .before .before .before .raw-row .ensures ∙ row-raw (a .st) W (a .s) (at .i) (omega (arith, c .before .before .before .before .before .before .before .before .before .raw-count .ensures)) in
+    let slot : c .before .before .before .before .child-of .result ≡ childOf (getD rs (at .i) blank) = c .before .before .before .before .child-of .ensures ∙ ap childOf row in
+    let chk : Checked (a .st) W (a .height - 1) (childOf (getD rs (at .i) blank)) 1 q (at .part .left) child =
+    subst (λ (s : ℕ). Checked (a .st) W (a .height - 1) s 1 q (at .part .left) child) slot (c .before .before .before .check-node .ensures) in
+    let told : RowRight (getD rs (at .i) blank) child =
+    subst (λ (r : Row). RowRight r child) row (c .before .before .row-right .ensures .holds (not-false (c .before .before .row-right .result) (c .before .if2 .left))) in
+    rw (c .grow .ensures, row)
+    (turn-on (a .st) W (a .height - 1) rs (last (a .some) (a .key)) (a .left - 1) (at .i) (at .met) (at .part) child (at .inv) lt chk told)
+
+tail-zero-requires : (t : ℕ) → check-interior-lts.Need-tail-zero-requires (interior-calls t) (check-interior-at t) check-interior.Post Inv μ
+tail-zero-requires t c κs =
+    let a = c .before .before .before .before .before .before .before .args in
+    let W = words (a .pool .now) in
+    let rs : List Row = rowsAt (a .st) W (a .s) in
+    let head : Head (a .st) W (a .height) (a .s) (a .least) (a .left) = c .before .before .before .before .before .head-right .ensures .holds (not-false (c .before .before .before .before .before .head-right .result) (c .before .before .before .before .if1 .left)) in
+    let n : c .before .before .before .raw-count .result ≡ length rs = c .before .before .before .raw-count .ensures ∙ head-count (a .st) W (a .s) (c .before .before .before .before .before .before .before .pre .1 .0 .limits .wide) (head .few) in
+    ((c .before .before .before .before .before .before .before .pre .1 .0, head .slot), omega (arith, head .few))
+
+returns-3 : (t : ℕ) → check-interior-lts.Need-returns-3 (interior-calls t) (check-interior-at t) check-interior.Post Inv μ
+returns-3 t c =
+    let a = c .before .before .before .before .before .before .before .before .before .before .args in
+    let W = words (a .pool .now) in
+    let rs : List Row = rowsAt (a .st) W (a .s) in
+    let head : Head (a .st) W (a .height) (a .s) (a .least) (a .left) = c .before .before .before .before .before .before .before .before .head-right .ensures .holds (not-false (c .before .before .before .before .before .before .before .before .head-right .result) (c .before .before .before .before .before .before .before .if1 .left)) in
+    let n : c .before .before .before .before .before .before .raw-count .result ≡ length rs = c .before .before .before .before .before .before .raw-count .ensures ∙ head-count (a .st) W (a .s) (c .before .before .before .before .before .before .before .before .before .before .pre .1 .0 .limits .wide) (head .few) in
+    let told = tail-told (a .st) W (a .s) (c .before .before .before .before .before .before .raw-count .result) (c .before .before .tail-zero .result) (c .before .before .before .before .before .before .raw-count .ensures) (omega (arith, head .few)) (c .before .before .tail-zero .ensures) in
+    checked-not (a .st) W (a .height) (a .s) (a .least) (last (a .some) (a .key)) (a .left) (c .fault3 .result) (c .fault3 .ensures)
+    (λ k. told-no told (not-true (c .before .before .tail-zero .result) (c .before .if3 .taken)) (right-tail (a .st) W (a .height) (a .s) (a .least) (last (a .some) (a .key)) (a .left) k))
+
+returns-4 : (t : ℕ) → check-interior-lts.Need-returns-4 (interior-calls t) (check-interior-at t) check-interior.Post Inv μ
+returns-4 t c =
+    let a = c .before .before .before .before .before .before .before .before .before .args in
+    let W = words (a .pool .now) in
+    let rs : List Row = rowsAt (a .st) W (a .s) in
+    let head : Head (a .st) W (a .height) (a .s) (a .least) (a .left) = c .before .before .before .before .before .before .before .head-right .ensures .holds (not-false (c .before .before .before .before .before .before .before .head-right .result) (c .before .before .before .before .before .before .if1 .left)) in
+    let n : c .before .before .before .before .before .raw-count .result ≡ length rs = c .before .before .before .before .before .raw-count .ensures ∙ head-count (a .st) W (a .s) (c .before .before .before .before .before .before .before .before .before .pre .1 .0 .limits .wide) (head .few) in
+    let high : a .height ≡ suc (a .height - 1) = omega (arith, c .before .before .before .before .before .before .before .before .before .pre .1 .1) in
+    let at = c .before .before .before .loop in
+    let told = tail-told (a .st) W (a .s) (c .before .before .before .before .before .raw-count .result) (c .before .tail-zero .result) (c .before .before .before .before .before .raw-count .ensures) (omega (arith, head .few)) (c .before .tail-zero .ensures) in
+    subst (λ (h : ℕ). Checked (a .st) W h (a .s) (a .least) (last (a .some) (a .key)) (a .left) (at .part)) (sym high)
+    (checked-end (a .st) W (suc (a .height - 1)) (a .s) (a .least) (last (a .some) (a .key)) (a .left) (at .i) (at .met) (at .part)
+    (subst (λ (h : ℕ). Head (a .st) W h (a .s) (a .least) (a .left)) high head) (told .holds (not-false (c .before .tail-zero .result) (c .if3 .left))) (at .inv) (omega arith))
+
+-- check_node
+
+node-check-leaf-requires : (t : ℕ) → check-node-lts.Need-check-leaf-requires (node-calls t) (check-node-at t) check-node.Post
+node-check-leaf-requires t c κs = c .before .before .pre .1
+
+node-returns : (t : ℕ) → check-node-lts.Need-returns (node-calls t) (check-node-at t) check-node.Post
+node-returns t c =
+    let a = c .before .before .before .args in
+    subst (λ (h : ℕ). Checked (a .st) (words (a .pool .now)) h (a .s) (a .least) (last (a .some) (a .key)) (a .left) (c .check-leaf .result)) (sym (c .before .if1 .taken))
+    (c .check-leaf .ensures)
+
+node-check-interior-requires : (t : ℕ) → check-node-lts.Need-check-interior-requires (node-calls t) (check-node-at t) check-node.Post
+node-check-interior-requires t c κs = (omega (arith, c .before .before .pre .0), (c .before .before .pre .1, omega arith))
+
+node-returns-2 : (t : ℕ) → check-node-lts.Need-returns-2 (node-calls t) (check-node-at t) check-node.Post
+node-returns-2 t c = c .check-interior .ensures
+
+pub +check-interior+check-node-spec : {M : Type 1} → statement M
++check-interior+check-node-spec =
+    close μ-check-interior μ-check-node (λ t. check-interior-lts.spec (interior-calls t)
+    (check-interior-at t)
+    check-interior.Post
+    Inv
+    μ
+    (λ c κs. search needs)
+    (λ c κs. search needs)
+    (returns t)
+    (raw-count-requires t)
+    (sub-begin t)
+    (λ c κs. search needs)
+    (loop-holds t)
+    (raw-row-requires t)
+    (sub-check-node t)
+    (λ c κs. search needs)
+    (check-node-requires t)
+    (λ c κs. search needs)
+    (λ c κs. search needs)
+    (returns-2 t)
+    (grow-requires t)
+    (add-i t)
+    (loop-less t)
+    (loop-again t)
+    (tail-zero-requires t)
+    (λ c κs. search needs)
+    (returns-3 t)
+    (returns-4 t))
+    λ t. check-node-lts.spec (node-calls t)
+    (check-node-at t)
+    check-node.Post
+    (node-check-leaf-requires t)
+    (node-returns t)
+    (node-check-interior-requires t)
+    (node-returns-2 t)

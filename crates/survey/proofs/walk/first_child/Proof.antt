@@ -1,0 +1,25 @@
+-- `first_child` meets its contract. Assumes nothing.
+use mathlib.Core.Path.{_≡_, sym, ap, _∙_}
+use native.Mathlib.Omega.{arith}
+use borrow.Author.Needs.{needs}
+use Rattle.words.specs.Words.{words}
+use Rattle.tree.specs.Bridge.{childOf}
+use Rattle.survey.proofs.Heads.{first-none, first-raw}
+use Rattle.survey.proofs.walk.first_child.Statement.{statement}
+use Rattle.survey.proofs.walk.first_child.Tie as tie
+
+returns : tie.Need-returns
+returns c = let a = c .before .before .before .args in sym (first-none (a .st) (words (a .pool .now)) (a .s) (sym (c .before .raw-count .ensures) ∙ c .if1 .taken))
+
+raw-row-requires : tie.Need-raw-row-requires
+raw-row-requires c κs = record { shape = c .before .before .before .pre .0; slot = c .before .before .before .pre .1; within = omega (arith, c .before .before .before .pre .0 .limits .wide) }
+
+returns-2 : tie.Need-returns-2
+returns-2 c =
+    let a = c .before .before .before .before .before .args in
+    c .child-of .ensures ∙ ap childOf (c .before .raw-row .ensures)
+    ∙ first-raw (a .st) (words (a .pool .now)) (a .s) (c .before .before .before .before .before .pre .0 .limits .wide) (omega (arith, c .before .before .before .raw-count .ensures))
+
+pub first-child-spec : {M : Type 1} → statement M
+first-child-spec =
+    tie.close (tie.spec (λ c κs. search needs) returns raw-row-requires (λ c κs. search needs) returns-2)

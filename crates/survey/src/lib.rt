@@ -1,0 +1,83 @@
+// The soundness test of a pool: of any bytes whether they are a sound pool.
+//
+// It takes no memory but the stack's, on which the walk is at most eight nodes deep, and it ends at the first fault. First come the
+// header and the length, then a pass over the slots, which counts those in use, then the walk over the tree from the root.
+//
+// No bytes take it longer than a sound pool of their length takes. The pass reads a slot in use at its first word only. The walk may
+// open as many nodes as there are slots in use, and each is charged when it is opened. So whatever the rows name, be it one child
+// twice, the root again or a node of another level, the walk opens no more nodes than the pool has. And a count is tested before a
+// row is read: of a node that says it has more rows than order, none is.
+//
+// That each node is reached once needs no marks. A slot shows a key, the first one below it; a slot reached twice would show it
+// twice, and the keys must ascend. The nodes reached are then as many as the slots in use, so every one of these is reached.
+ghost use mathlib.Core.Path.{_≡_};
+ghost use Rattle.model.specs.Answer.{Tells};
+ghost use Rattle.survey.specs.Surveyed.{Surveyed, Headed, unsound};
+
+mod spares; // the pass over the slots
+mod walk; // the walk over the tree
+
+use spares::survey_slots;
+use walk::left_edge;
+use walk::tree_right;
+
+// What a survey finds: whether the pool is sound; if it is, the height of its tree, the number of unused slots, and the lowest of
+// them, or the number of slots where there is none.
+pub struct Findings {
+    pub sound: bool,
+    pub height: usize,
+    pub unused: usize,
+    pub low: usize,
+}
+
+// Surveys any bytes.
+pub fn survey(pool: &[u8]) -> Findings
+    ensures { λ r. ⌜ Surveyed (now (pool .entry)) r ⌝ }
+{
+    if !header_right(pool) {
+        return nothing();
+    }
+    let st = slots::settings(pool);
+    let spares = survey_slots(pool, st);
+    if !spares.ok {
+        return nothing();
+    }
+    let height = left_edge(pool, st);
+    if !tree_right(pool, st, height, st.nodes - spares.unused) {
+        return nothing();
+    }
+    Findings {
+        sound: true,
+        height,
+        unused: spares.unused,
+        low: spares.low,
+    }
+}
+
+// Whether header and length are those of a sound pool.
+fn header_right(pool: &[u8]) -> bool
+    ensures { λ r. ⌜ Tells r (Headed (now (pool .entry))) ⌝ }
+{
+    if pool.len() < 32 {
+        return false;
+    }
+    if slots::layout(pool) != slots::LAYOUT {
+        return false;
+    }
+    let st = slots::settings(pool);
+    if !tree::in_limits(st) {
+        return false;
+    }
+    pool.len() == tree::pool_len(st)
+}
+
+fn nothing() -> Findings
+    ensures { λ r. ⌜ r ≡ unsound ⌝ }
+{
+    Findings {
+        sound: false,
+        height: 0,
+        unused: 0,
+        low: 0,
+    }
+}

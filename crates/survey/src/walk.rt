@@ -1,0 +1,311 @@
+// The walk over the tree of a pool that has the right length. It reads each node that it opens from its first word to its last: head,
+// rows, and the zeros past them.
+ghost use mathlib.Core.Path.{_≡_};
+ghost use mathlib.Core.Bool.{false};
+ghost use Prim.Native.Nat.{_<_};
+ghost use Rattle.words.specs.Words.{words};
+ghost use Rattle.slots.specs.Slots.{Shape};
+ghost use Rattle.slots.specs.Nodes.{nodes, rowsAt};
+ghost use Rattle.model.specs.Answer.{Tells};
+ghost use Rattle.model.specs.Tree.{adds};
+ghost use Rattle.tree.specs.Bridge.{childOf, entryOf};
+ghost use Rattle.tree.specs.Pool.{firstChild, heightAt};
+ghost use Rattle.survey.specs.Checked.{last, Head, Checked, begun, grown, EntryRight, RowRight, Addable, leastRoot, Known, SoundTree};
+use model::Settings;
+use model::Totals;
+use slots::Row;
+
+// What the walk has found when it comes back from a node: whether all was right; if so, the last key that it met, the totals of the
+// node's tree, and how many nodes it may still open.
+pub struct Part {
+    pub ok: bool,
+    pub last: u64,
+    pub totals: Totals,
+    pub left: usize,
+}
+
+// How many interiors there are down the left edge, at most 8. What is right about them the walk will tell.
+pub fn left_edge(pool: &[u8], st: Settings) -> usize
+    requires { ⌜ Shape st (words (now pool)) ⌝ }
+    ensures { λ r. ⌜ r ≡ heightAt (nodes st (words (now (pool .entry)))) 8 0 ⌝ }
+{
+    let mut height = 0;
+    let mut s = 0;
+    while height < 8 {
+        if st.nodes <= s {
+            return height;
+        }
+        if slots::raw_kind(pool, st, s) != slots::INTERIOR {
+            return height;
+        }
+        s = first_child(pool, st, s);
+        height += 1;
+    }
+    height
+}
+
+// The slot that the first row of slot `s` names, if it has one.
+fn first_child(pool: &[u8], st: Settings, s: usize) -> usize
+    requires { ⌜ Shape st (words (now pool)) × (s < st .nodes) ⌝ }
+    ensures { λ r. ⌜ r ≡ firstChild (rowsAt st (words (now (pool .entry))) s) ⌝ }
+{
+    if slots::raw_count(pool, st, s) == 0 {
+        return 0;
+    }
+    child_of(slots::raw_row(pool, st, s, 0))
+}
+
+// Whether the tree is that of a sound pool, where `used` nodes are in use.
+pub fn tree_right(pool: &[u8], st: Settings, height: usize, used: usize) -> bool
+    requires { ⌜ Shape st (words (now pool)) ⌝ }
+    requires { ⌜ Known st (words (now pool)) height used ⌝ }
+    ensures { λ r. ⌜ Tells r (SoundTree st (words (now (pool .entry)))) ⌝ }
+{
+    if 7 < height {
+        return false;
+    }
+    let least = least_root(height);
+    let root = check_node(pool, st, height, 0, least, false, 0, used);
+    if !root.ok {
+        return false;
+    }
+    root.left == 0
+}
+
+// Tests the tree of height `height` in slot `s`, whose root has `least` rows or more, and which may have `left` nodes. Its keys must
+// all be above `key`, the last one met, if one was met.
+fn check_node(
+    pool: &[u8],
+    st: Settings,
+    height: usize,
+    s: usize,
+    least: usize,
+    some: bool,
+    key: u64,
+    left: usize,
+) -> Part
+    requires { ⌜ Shape st (words (now pool)) ⌝ }
+    ensures { λ r. ⌜ Checked st (words (now (pool .entry))) height s least (last some key) left r ⌝ }
+{
+    if height == 0 {
+        return check_leaf(pool, st, s, least, some, key, left);
+    }
+    check_interior(pool, st, height, s, least, some, key, left)
+}
+
+// The same of an interior. Separators and totals are compared on the way up.
+fn check_interior(
+    pool: &[u8],
+    st: Settings,
+    height: usize,
+    s: usize,
+    least: usize,
+    some: bool,
+    key: u64,
+    left: usize,
+) -> Part
+    requires { ⌜ Shape st (words (now pool)) ⌝ }
+    requires { ⌜ 0 < height ⌝ }
+    ensures { λ r. ⌜ Checked st (words (now (pool .entry))) height s least (last some key) left r ⌝ }
+{
+    if !head_right(pool, st, height, s, least, left) {
+        return fault();
+    }
+    let n = slots::raw_count(pool, st, s);
+    let mut part = begin(key, left - 1);
+    let mut met = some;
+    let mut i = 0;
+    while i < n {
+        let row = slots::raw_row(pool, st, s, i);
+        let child = check_node(
+            pool,
+            st,
+            height - 1,
+            child_of(row),
+            1,
+            met,
+            part.last,
+            part.left,
+        );
+        if !row_right(row, child) {
+            return fault();
+        }
+        part = grow(part, row.key, child.totals, child.left);
+        met = true;
+        i += 1;
+    }
+    if !slots::tail_zero(pool, st, s, n) {
+        return fault();
+    }
+    part
+}
+
+// The same of a leaf.
+fn check_leaf(
+    pool: &[u8],
+    st: Settings,
+    s: usize,
+    least: usize,
+    some: bool,
+    key: u64,
+    left: usize,
+) -> Part
+    requires { ⌜ Shape st (words (now pool)) ⌝ }
+    ensures { λ r. ⌜ Checked st (words (now (pool .entry))) 0 s least (last some key) left r ⌝ }
+{
+    if !head_right(pool, st, 0, s, least, left) {
+        return fault();
+    }
+    let entries = slots::raw_count(pool, st, s);
+    let mut part = begin(key, left - 1);
+    let mut met = some;
+    let mut i = 0;
+    while i < entries {
+        let row = slots::raw_row(pool, st, s, i);
+        if !entry_right(row, met, part.last) {
+            return fault();
+        }
+        part = grow(part, row.key, adds_of(row), part.left);
+        met = true;
+        i += 1;
+    }
+    if !slots::tail_zero(pool, st, s, entries) {
+        return fault();
+    }
+    part
+}
+
+// Whether slot `s` holds a node of height `height`, with `least` to order rows, that the walk may open.
+fn head_right(pool: &[u8], st: Settings, height: usize, s: usize, least: usize, left: usize) -> bool
+    requires { ⌜ Shape st (words (now pool)) ⌝ }
+    ensures { λ r. ⌜ Tells r (Head st (words (now (pool .entry))) height s least left) ⌝ }
+{
+    if left == 0 {
+        return false;
+    }
+    if st.nodes <= s {
+        return false;
+    }
+    if slots::raw_kind(pool, st, s) != tree::kind_for(height) {
+        return false;
+    }
+    let n = slots::raw_count(pool, st, s);
+    if n < least {
+        return false;
+    }
+    n <= st.order
+}
+
+// Whether a leaf's row is an entry whose key is above `key`, if one was met. A size is of 4 bytes, though its word has 8.
+fn entry_right(row: Row, met: bool, key: u64) -> bool
+    ensures { λ r. ⌜ Tells r (EntryRight (last met key) row) ⌝ }
+{
+    if 0x1_0000_0000 <= row.size {
+        return false;
+    }
+    if !met {
+        return true;
+    }
+    key < row.key
+}
+
+// Whether an interior's row says of its child what the walk found.
+fn row_right(row: Row, child: Part) -> bool
+    ensures { λ r. ⌜ Tells r (RowRight row child) ⌝ }
+{
+    if !child.ok {
+        return false;
+    }
+    if row.key != child.last {
+        return false;
+    }
+    if row.body / 0x10_0000 % 0x10_0000 != child.totals.live as u64 {
+        return false;
+    }
+    if row.body % 0x10_0000 != child.totals.dead as u64 {
+        return false;
+    }
+    row.size == child.totals.size
+}
+
+// A walk at the start of a node's rows.
+fn begin(key: u64, left: usize) -> Part
+    ensures { λ r. ⌜ r ≡ begun key left ⌝ }
+{
+    Part {
+        ok: true,
+        last: key,
+        totals: Totals {
+            live: 0,
+            dead: 0,
+            size: 0,
+        },
+        left,
+    }
+}
+
+// What it has found after another row, whose key and totals are given.
+fn grow(part: Part, key: u64, t: Totals, left: usize) -> Part
+    requires { ⌜ Addable (part .totals) t ⌝ }
+    ensures { λ r. ⌜ r ≡ grown (part .totals) key t left ⌝ }
+{
+    let sum = Totals {
+        live: part.totals.live + t.live,
+        dead: part.totals.dead + t.dead,
+        size: part.totals.size + t.size,
+    };
+    Part {
+        ok: true,
+        last: key,
+        totals: sum,
+        left,
+    }
+}
+
+// What it answers with at a fault.
+fn fault() -> Part
+    ensures { λ r. ⌜ r .ok ≡ false ⌝ }
+{
+    Part {
+        ok: false,
+        last: 0,
+        totals: Totals {
+            live: 0,
+            dead: 0,
+            size: 0,
+        },
+        left: 0,
+    }
+}
+
+// What a leaf's row adds to the totals.
+fn adds_of(row: Row) -> Totals
+    ensures { λ r. ⌜ r ≡ adds (entryOf row) ⌝ }
+{
+    if row.body == 0 {
+        return Totals {
+            live: 0,
+            dead: 1,
+            size: row.size,
+        };
+    }
+    Totals {
+        live: 1,
+        dead: 0,
+        size: row.size,
+    }
+}
+
+// The slot that an interior's row names.
+fn child_of(row: Row) -> usize
+    ensures { λ r. ⌜ r ≡ childOf row ⌝ }
+{
+    (row.body / 0x100_0000_0000) as usize
+}
+
+// How many rows a root of height `height` has at least.
+fn least_root(height: usize) -> usize
+    ensures { λ r. ⌜ r ≡ leastRoot height ⌝ }
+{
+    if height == 0 { 0 } else { 2 }
+}
