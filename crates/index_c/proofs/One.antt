@@ -1,0 +1,64 @@
+-- Whatever keeps the promise of a C call is one result, one small buffer, and one state of the lent bytes. Assumes nothing.
+use Prim.Native.Nat.{ℕ}
+use mathlib.Core.Path.{_≡_, refl, sym, ap, _∙_}
+use mathlib.Core.List.{List}
+use lib.ListN.{length}
+use Rattle.model.specs.declared.Settings.{Settings}
+use Rattle.model.specs.Answer.{Answer}
+use Rattle.model.specs.Look.{Request}
+use Rattle.model.specs.Refuse.{Call}
+use Rattle.model.specs.Frame.{Frame, writeFrame}
+use Rattle.model.specs.Sound.{InLimits}
+use Rattle.tree.specs.Pool.{poolLen}
+use Rattle.frame.proofs.Undoes.{one-written}
+use Rattle.index.specs.Promise.{Where, holds, fails, opening, totalled, batched, got, scanned}
+use Rattle.frame.specs.Answers.{lengthTold}
+use Rattle.index.specs.declared.OpenAnswer.{OpenAnswer}
+use Rattle.index.proofs.Unique.{one-opening, one-totals, one-batch, one-get, one-scan, one-frame}
+use Rattle.index_c.specs.Told.{codeOf, Reports, totalNumbers, countNumbers, listedNumbers, scannedNumbers, Fields, frameFields}
+use Rattle.index_c.specs.Calls.{OpenCall, TotalsCall, BatchCall, GetCall, ScanCall, FrameCall, WriteCall, ReadCall}
+use Rattle.index_c.proofs.Reported.{one-report}
+
+pub one-pool-len : (st : Settings) (r q : ℕ) → Where (InLimits st) (poolLen st) 0 r → Where (InLimits st) (poolLen st) 0 q → r ≡ q
+one-pool-len st r q (holds p e) (holds s f) = e ∙ sym f
+one-pool-len st r q (holds p e) (fails n f) = absurd (n p)
+one-pool-len st r q (fails n e) (holds p f) = absurd (n p)
+one-pool-len st r q (fails n e) (fails m f) = e ∙ sym f
+
+pub one-open-call : (st : Settings) (l k m : List ℕ) (r q : ℕ) → OpenCall st l r k → OpenCall st l q m → (r ≡ q) × (k ≡ m)
+one-open-call st l k m r q x y =
+    let u = one-opening st l k m (x .0) (y .0) (x .1 .0) (y .1 .0) in (x .1 .1 ∙ ap (λ (a : OpenAnswer). codeOf (opening a)) (u .0) ∙ sym (y .1 .1), u .1)
+
+pub one-totals-call : (l b b′ b″ : List ℕ) (r q : ℕ) → TotalsCall l b r b′ → TotalsCall l b q b″ → (r ≡ q) × (b′ ≡ b″)
+one-totals-call l b b′ b″ r q x y =
+    one-report totalNumbers _ _ b b′ b″ r q (ap totalled (one-totals l (x .0) (y .0) (x .1 .0) (y .1 .0))) (x .1 .1) (y .1 .1)
+
+pub one-batch-call : (c : Call) (l k m b b′ b″ : List ℕ) (r q : ℕ) → BatchCall c l b r k b′ → BatchCall c l b q m b″ → ((r ≡ q) × (b′ ≡ b″)) × (k ≡ m)
+one-batch-call c l k m b b′ b″ r q x y =
+    let u = one-batch c l k m (x .0) (y .0) (x .1 .0) (y .1 .0) in
+    (one-report countNumbers _ _ b b′ b″ r q (ap batched (u .0)) (x .1 .1) (y .1 .1), u .1)
+
+pub one-get-call : (l ks out k m b b′ b″ : List ℕ) (r q : ℕ) → GetCall l ks out b r k b′ → GetCall l ks out b q m b″ → ((r ≡ q) × (b′ ≡ b″)) × (k ≡ m)
+one-get-call l ks out k m b b′ b″ r q x y =
+    let u = one-get l ks out k m (x .0) (y .0) (x .1 .0) (y .1 .0) in
+    (one-report listedNumbers _ _ b b′ b″ r q (ap got (u .0)) (x .1 .1) (y .1 .1), u .1)
+
+pub one-scan-call : (l : List ℕ) (p : Request) (out k m b b′ b″ : List ℕ) (r q : ℕ) → ScanCall l p out b r k b′ → ScanCall l p out b q m b″
+    → ((r ≡ q) × (b′ ≡ b″)) × (k ≡ m)
+one-scan-call l p out k m b b′ b″ r q x y =
+    let u = one-scan l p out k m (x .0) (y .0) (x .1 .0) (y .1 .0) in
+    (one-report scannedNumbers _ _ b b′ b″ r q (ap scanned (u .0)) (x .1 .1) (y .1 .1), u .1)
+
+pub one-frame-call : (l : List ℕ) (i : ℕ) (line k m : List ℕ) (b b′ b″ r q : ℕ) → FrameCall l i line b r k b′ → FrameCall l i line b q m b″
+    → ((r ≡ q) × (b′ ≡ b″)) × (k ≡ m)
+one-frame-call l i line k m b b′ b″ r q x y =
+    let u = one-frame l i line k m (x .0) (y .0) (x .1 .0) (y .1 .0) in
+    (one-report (λ n. n) _ _ b b′ b″ r q (ap lengthTold (u .0)) (x .1 .1) (y .1 .1), u .1)
+
+pub one-write-call : (f : Frame) (line k m : List ℕ) (b b′ b″ r q : ℕ) → WriteCall f line b r k b′ → WriteCall f line b q m b″ → ((r ≡ q) × (b′ ≡ b″)) × (k ≡ m)
+one-write-call f line k m b b′ b″ r q x y =
+    let u = one-written (writeFrame (length line) f) line k m (x .0) (y .0) (x .1 .0) (y .1 .0) in
+    (one-report (λ n. n) _ _ b b′ b″ r q (ap lengthTold (u .0)) (x .1 .1) (y .1 .1), u .1)
+
+pub one-read-call : (a : Answer Frame) (b b′ b″ : Fields) (r q : ℕ) → ReadCall a b r b′ → ReadCall a b q b″ → (r ≡ q) × (b′ ≡ b″)
+one-read-call a b b′ b″ r q x y = one-report frameFields a a b b′ b″ r q refl x y

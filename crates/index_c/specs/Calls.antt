@@ -1,0 +1,51 @@
+-- What each call promises: it reports an answer that keeps the promise of crate index, or of crate frame where no pool is given. Assumes nothing.
+use Prim.Native.Nat.{ℕ}
+use mathlib.Core.Path.{_≡_}
+use mathlib.Core.List.{List}
+use lib.ListN.{length}
+use Rattle.model.specs.declared.Settings.{Settings}
+use Rattle.model.specs.Answer.{Answer}
+use Rattle.model.specs.Look.{Request}
+use Rattle.model.specs.Refuse.{Call}
+use Rattle.model.specs.Frame.{Frame, writeFrame}
+use Rattle.frame.specs.declared.WriteAnswer.{WriteAnswer}
+use Rattle.frame.specs.Answers.{lengthTold, Writes}
+use Rattle.index.specs.declared.OpenAnswer.{OpenAnswer}
+use Rattle.index.specs.Promise.{Opens, opening, Totalling, totalled, Batches, batched, Gets, got, Scans, scanned, Frames}
+use Rattle.index_c.specs.Told.{codeOf, Reports, totalNumbers, countNumbers, listedNumbers, scannedNumbers, Fields, frameFields}
+
+-- a promise of an answer is kept by one that is reported, whose values are put by f into a small buffer that was b
+abbrev pub Kept : {R A B : Type 0} → (R → Type 0) → (R → Answer A) → (A → B) → B → ℕ → B → Type 0
+Kept {R = R} promise told f b r b′ = (a : R) × (promise a × Reports f (told a) b r b′)
+
+-- OPENING a pool l with the settings st; there is no small buffer
+abbrev pub OpenCall : Settings → List ℕ → ℕ → List ℕ → Type 0
+OpenCall st l r l′ = (a : OpenAnswer) × (Opens st l a l′ × (r ≡ codeOf (opening a)))
+
+-- of the pool l, and the small buffer b
+
+abbrev pub TotalsCall : List ℕ → List ℕ → ℕ → List ℕ → Type 0
+TotalsCall l b r b′ = Kept (Totalling l) totalled totalNumbers b r b′
+
+abbrev pub BatchCall : Call → List ℕ → List ℕ → ℕ → List ℕ → List ℕ → Type 0
+BatchCall c l b r l′ b′ = Kept (λ a. Batches c l a l′) batched countNumbers b r b′
+
+abbrev pub GetCall : List ℕ → List ℕ → List ℕ → List ℕ → ℕ → List ℕ → List ℕ → Type 0
+GetCall l ks out b r out′ b′ = Kept (λ a. Gets l ks out a out′) got listedNumbers b r b′
+
+abbrev pub ScanCall : List ℕ → Request → List ℕ → List ℕ → ℕ → List ℕ → List ℕ → Type 0
+ScanCall l q out b r out′ b′ = Kept (λ a. Scans l q out a out′) scanned scannedNumbers b r b′
+
+-- the small buffer is one number, the line's length
+abbrev pub FrameCall : List ℕ → ℕ → List ℕ → ℕ → ℕ → List ℕ → ℕ → Type 0
+FrameCall l i line b r line′ b′ = Kept (λ a. Frames l i line a line′) lengthTold (λ n. n) b r b′
+
+-- WITHOUT A POOL
+
+-- the frame f is written into a line
+abbrev pub WriteCall : Frame → List ℕ → ℕ → ℕ → List ℕ → ℕ → Type 0
+WriteCall f line b r line′ b′ = Kept (λ (a : WriteAnswer). Writes (writeFrame (length line) f) line a line′) lengthTold (λ n. n) b r b′
+
+-- the answer a is read into the buffers of a frame
+abbrev pub ReadCall : Answer Frame → Fields → ℕ → Fields → Type 0
+ReadCall a b r b′ = Reports frameFields a b r b′

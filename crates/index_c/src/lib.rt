@@ -1,0 +1,235 @@
+// The index for C and for Rust: its calls as functions on numbers and lent slices. A slice is a pointer and a count, an array a pointer.
+//
+// Each function but the first answers 0 where the call was done, and else the number of the refusal; a refused call leaves every lent
+// buffer as it was, the small ones too. What each answers and leaves stands in specs/Calls. include/alarm_index.h declares them for C.
+ghost use Rattle.model.specs.declared.Operation.the-variants.{Set, Remove, Compare};
+ghost use Rattle.model.specs.ReadFrame.{readLine};
+ghost use Rattle.model.specs.Sound.{InLimits};
+ghost use Rattle.tree.specs.Pool.{poolLen};
+ghost use Rattle.look.specs.Calls.{requestFor};
+ghost use Rattle.frame.specs.Contents.{frameOf};
+ghost use Rattle.index.specs.Promise.{Where};
+ghost use Rattle.index_c.specs.Given.{settingsFor, referenceFor, expectationFor, actionFor, callFor, callEach, boundFor, directionFor, siftFor, leafContents, interiorContents};
+ghost use Rattle.index_c.specs.Calls.{OpenCall, TotalsCall, BatchCall, GetCall, ScanCall, FrameCall, WriteCall, ReadCall};
+
+mod given; // what a caller's numbers and flags stand for
+mod tell; // an answer as a number and a small buffer
+
+use given::action;
+use given::bound;
+use given::direction;
+use given::expectation;
+use given::interior;
+use given::leaf;
+use given::settings;
+use model::Operation;
+use model::Reference;
+use model::Sift;
+use tell::tell_counts;
+use tell::tell_get;
+use tell::tell_length;
+use tell::tell_open;
+use tell::tell_reading;
+use tell::tell_scan;
+use tell::tell_totals;
+
+// The exact length of a pool, in bytes; 0 where a setting is wrong.
+#[no_mangle]
+pub extern "C" fn alarm_pool_len(nodes: u64, order: u64, minimum: u64) -> u64
+    ensures { λ r. ⌜ Where (InLimits (settingsFor nodes order minimum)) (poolLen (settingsFor nodes order minimum)) 0 r ⌝ }
+{
+    let st = settings(nodes, order, minimum);
+    if !tree::in_limits(st) {
+        return 0;
+    }
+    let n = tree::pool_len(st);
+    n as u64
+}
+
+// Makes the pool one empty leaf.
+#[no_mangle]
+pub extern "C" fn alarm_open(pool: &mut [u8], nodes: u64, order: u64, minimum: u64) -> u32
+    ensures { λ r. ⌜ OpenCall (settingsFor nodes order minimum) (now (pool .entry)) r (now (pool .exit)) ⌝ }
+{
+    let st = settings(nodes, order, minimum);
+    let answer = index::open(pool, st);
+    tell_open(answer)
+}
+
+// Live entries, dead ones, and the sum of the sizes of all.
+#[no_mangle]
+pub extern "C" fn alarm_totals(pool: &[u8], totals: &mut [u64; 3]) -> u32
+    ensures { λ r. ⌜ TotalsCall (now (pool .entry)) (now (totals .entry)) r (now (totals .exit)) ⌝ }
+{
+    let answer = index::totals(pool);
+    tell_totals(answer, totals)
+}
+
+// Sets every key to one reference. `counts`, of each batch: keys that added, replaced, removed, did nothing.
+#[no_mangle]
+pub extern "C" fn alarm_set(
+    pool: &mut [u8],
+    keys: &[u64],
+    place: u64,
+    size: u32,
+    counts: &mut [u64; 4],
+) -> u32
+    ensures { λ r. ⌜ BatchCall (callFor (Set (referenceFor place size)) (now (keys .entry))) (now (pool .entry)) (now (counts .entry)) r (now (pool .exit)) (now (counts .exit)) ⌝ }
+{
+    batch(
+        pool,
+        keys,
+        Operation::Set(Reference { place, size }),
+        counts,
+    )
+}
+
+// Sets each key to its own reference: a place and a size a key.
+#[no_mangle]
+pub extern "C" fn alarm_set_each(
+    pool: &mut [u8],
+    keys: &[u64],
+    places: &[u64],
+    sizes: &[u32],
+    counts: &mut [u64; 4],
+) -> u32
+    ensures { λ r. ⌜ BatchCall (callEach (now (keys .entry)) (now (places .entry)) (now (sizes .entry))) (now (pool .entry)) (now (counts .entry)) r (now (pool .exit)) (now (counts .exit)) ⌝ }
+{
+    let answer = index::batch(pool, keys, places, sizes, Operation::SetEach);
+    tell_counts(answer, counts)
+}
+
+// Removes every key.
+#[no_mangle]
+pub extern "C" fn alarm_remove(pool: &mut [u8], keys: &[u64], counts: &mut [u64; 4]) -> u32
+    ensures { λ r. ⌜ BatchCall (callFor Remove (now (keys .entry))) (now (pool .entry)) (now (counts .entry)) r (now (pool .exit)) (now (counts .exit)) ⌝ }
+{
+    batch(pool, keys, Operation::Remove, counts)
+}
+
+// For every key that is as expected: sets it to a reference if `set`, and removes it if not. Expected is a reference if `holds`, and an
+// absent key if not.
+#[no_mangle]
+pub extern "C" fn alarm_compare(
+    pool: &mut [u8],
+    keys: &[u64],
+    holds: bool,
+    expected_place: u64,
+    expected_size: u32,
+    set: bool,
+    place: u64,
+    size: u32,
+    counts: &mut [u64; 4],
+) -> u32
+    ensures { λ r. ⌜ BatchCall (callFor (Compare (expectationFor holds «expected_place» «expected_size») (actionFor set place size)) (now (keys .entry))) (now (pool .entry)) (now (counts .entry)) r (now (pool .exit)) (now (counts .exit)) ⌝ }
+{
+    let e = expectation(holds, expected_place, expected_size);
+    let a = action(set, place, size);
+    batch(pool, keys, Operation::Compare(e, a), counts)
+}
+
+// A batch that is lent no references.
+fn batch(pool: &mut [u8], keys: &[u64], op: Operation, counts: &mut [u64; 4]) -> u32
+    ensures { λ r. ⌜ BatchCall (callFor op (now (keys .entry))) (now (pool .entry)) (now (counts .entry)) r (now (pool .exit)) (now (counts .exit)) ⌝ }
+{
+    let places = [0u64; 0];
+    let sizes = [0u32; 0];
+    let answer = index::batch(pool, keys, &places, &sizes, op);
+    tell_counts(answer, counts)
+}
+
+// Lists one entry for each key that is present. Told: entries written, and 1 where more were due.
+#[no_mangle]
+pub extern "C" fn alarm_get(pool: &[u8], keys: &[u64], out: &mut [u8], told: &mut [u64; 2]) -> u32
+    ensures { λ r. ⌜ GetCall (now (pool .entry)) (now (keys .entry)) (now (out .entry)) (now (told .entry)) r (now (out .exit)) (now (told .exit)) ⌝ }
+{
+    let answer = index::get(pool, keys, out);
+    tell_get(answer, told)
+}
+
+// Lists the live entries in a range whose size is `least` or more. Told: entries written, 1 where more were due, and nodes opened.
+#[no_mangle]
+pub extern "C" fn alarm_scan(
+    pool: &[u8],
+    start_bounded: bool,
+    start_included: bool,
+    start: u64,
+    end_bounded: bool,
+    end_included: bool,
+    end: u64,
+    down: bool,
+    least: u32,
+    out: &mut [u8],
+    told: &mut [u64; 3],
+) -> u32
+    ensures { λ r. ⌜ ScanCall (now (pool .entry)) (requestFor (boundFor «start_bounded» «start_included» start) (boundFor «end_bounded» «end_included» end) (directionFor down) (siftFor least)) (now (out .entry)) (now (told .entry)) r (now (out .exit)) (now (told .exit)) ⌝ }
+{
+    let low = bound(start_bounded, start_included, start);
+    let high = bound(end_bounded, end_included, end);
+    let way = direction(down);
+    let answer = index::scan(pool, low, high, way, Sift::SizeAtLeast(least), out);
+    tell_scan(answer, told)
+}
+
+// Writes the i-th frame of a pool. `len`: the line's length.
+#[no_mangle]
+pub extern "C" fn alarm_frame(pool: &[u8], i: u64, line: &mut [u8], len: &mut u64) -> u32
+    ensures { λ r. ⌜ FrameCall (now (pool .entry)) i (now (line .entry)) (now (len .entry)) r (now (line .exit)) (now (len .exit)) ⌝ }
+{
+    let number = i as usize;
+    let answer = index::frame(pool, number, line);
+    tell_length(answer, len)
+}
+
+// Reads a frame. `head`: its kind, which is the header byte, and how many entries; then 32 places a field, zeros past the entries.
+#[no_mangle]
+pub extern "C" fn alarm_read_frame(
+    line: &[u8],
+    head: &mut [u64; 2],
+    keys: &mut [u64; 32],
+    wide: &mut [u64; 32],
+    narrow: &mut [u32; 32],
+    live: &mut [u32; 32],
+    dead: &mut [u32; 32],
+) -> u32
+    ensures { λ r. ⌜ ReadCall (readLine (now (line .entry))) (record { head = now (head .entry); keys = now (keys .entry); wide = now (wide .entry); narrow = now (narrow .entry); live = now (live .entry); dead = now (dead .entry) }) r (record { head = now (head .exit); keys = now (keys .exit); wide = now (wide .exit); narrow = now (narrow .exit); live = now (live .exit); dead = now (dead .exit) }) ⌝ }
+{
+    let reading = index::read_frame(line);
+    tell_reading(reading, head, keys, wide, narrow, live, dead)
+}
+
+// Writes the frame of a leaf with the first `count` of 32 entries. `len`: the line's length.
+#[no_mangle]
+pub extern "C" fn alarm_write_leaf(
+    count: u64,
+    keys: &[u64; 32],
+    places: &[u64; 32],
+    sizes: &[u32; 32],
+    line: &mut [u8],
+    len: &mut u64,
+) -> u32
+    ensures { λ r. ⌜ WriteCall (frameOf (leafContents count (now (keys .entry)) (now (places .entry)) (now (sizes .entry)))) (now (line .entry)) (now (len .entry)) r (now (line .exit)) (now (len .exit)) ⌝ }
+{
+    let contents = leaf(count, keys, places, sizes);
+    let answer = index::write_frame(contents, line);
+    tell_length(answer, len)
+}
+
+// Writes the frame of an interior with the first `count` of 32 entries. `len`: the line's length.
+#[no_mangle]
+pub extern "C" fn alarm_write_interior(
+    count: u64,
+    keys: &[u64; 32],
+    children: &[u32; 32],
+    live: &[u32; 32],
+    dead: &[u32; 32],
+    sums: &[u64; 32],
+    line: &mut [u8],
+    len: &mut u64,
+) -> u32
+    ensures { λ r. ⌜ WriteCall (frameOf (interiorContents count (now (keys .entry)) (now (children .entry)) (now (live .entry)) (now (dead .entry)) (now (sums .entry)))) (now (line .entry)) (now (len .entry)) r (now (line .exit)) (now (len .exit)) ⌝ }
+{
+    let contents = interior(count, keys, children, live, dead, sums);
+    let answer = index::write_frame(contents, line);
+    tell_length(answer, len)
+}

@@ -1,0 +1,97 @@
+/* Opens a pool, sets, compares, removes, gets, scans and frames, and prints what each call answered. What it must print: alarm.stdout.
+ *
+ *     rt staticlib index_c
+ *     cc -Iinclude link/alarm.c -Ltarget/staticlib -lindex_c -o target/alarm && target/alarm | diff - link/alarm.stdout
+ */
+#include "alarm_index.h"
+#include <inttypes.h>
+#include <stdio.h>
+#include <stdlib.h>
+#include <string.h>
+
+static void numbers(const char *call, uint32_t code, const uint64_t *n, size_t len) {
+    printf("%s %" PRIu32 ":", call, code);
+    for (size_t i = 0; i < len; i++)
+        printf(" %" PRIu64, n[i]);
+    putchar('\n');
+}
+
+static uint64_t word(const uint8_t *p) {
+    uint64_t n = 0;
+    for (int i = 7; i >= 0; i--)
+        n = n * 256 + p[i];
+    return n;
+}
+
+static void entries(const uint8_t *out, uint64_t len) {
+    for (uint64_t i = 0; i < len; i++)
+        printf("  %" PRIu64 " at %" PRIu64 ", %" PRIu64 " bytes\n", word(out + 24 * i), word(out + 24 * i + 8), word(out + 24 * i + 16));
+}
+
+int main(void) {
+    uint64_t n = alarm_pool_len(16, 4, 2);
+    printf("pool %" PRIu64 ", with a wrong minimum %" PRIu64 "\n", n, alarm_pool_len(16, 4, 3));
+    uint8_t *pool = malloc(n);
+    if (!pool)
+        return 1;
+    memset(pool, 170, n);
+
+    /* an unopened pool is refused, and the small buffer is as it was */
+    uint64_t totals[3] = {7, 7, 7}, counts[4] = {7, 7, 7, 7};
+    numbers("totals", alarm_totals(pool, n, totals), totals, 3);
+    printf("open %" PRIu32 "\n", alarm_open(pool, n - 1, 16, 4, 2));
+    printf("open %" PRIu32 "\n", alarm_open(pool, n, 16, 4, 2));
+
+    const uint64_t keys[5] = {1, 2, 3, 4, 5}, places[4] = {257, 258, 259, 260}, down[2] = {2, 1};
+    const uint32_t sizes[4] = {16, 16, 16, 16};
+    numbers("set_each", alarm_set_each(pool, n, keys, 4, places, 4, sizes, 4, counts), counts, 4);
+    numbers("set_each", alarm_set_each(pool, n, keys, 4, places, 3, sizes, 4, counts), counts, 4);
+    numbers("set", alarm_set(pool, n, keys + 4, 1, 261, 16, counts), counts, 4);
+    numbers("set", alarm_set(pool, n, keys, 5, 1, 1, counts), counts, 4);
+    numbers("remove", alarm_remove(pool, n, down, 2, counts), counts, 4);
+    numbers("totals", alarm_totals(pool, n, totals), totals, 3);
+
+    uint8_t line[1794];
+    uint64_t len = 0;
+    uint32_t code;
+    for (uint64_t i = 0; (code = alarm_frame(pool, n, i, line, sizeof line, &len)) == 0; i++)
+        printf("%.*s\n", (int)len, (const char *)line);
+    printf("frame %" PRIu32 ", the last had %" PRIu64 " digits\n", code, len);
+
+    /* the last frame, read and written again, and with eight more zeros */
+    uint64_t head[2] = {0}, k[32], wide[32];
+    uint32_t narrow[32], live[32], dead[32];
+    numbers("read_frame", alarm_read_frame(line, len, head, k, wide, narrow, live, dead), head, 2);
+    printf("  %" PRIu64 " at %" PRIu64 ", %" PRIu32 " bytes\n", k[1], wide[1], narrow[1]);
+    numbers("write_leaf", alarm_write_leaf(head[1], k, wide, narrow, line, sizeof line, &len), &len, 1);
+    numbers("write_leaf", alarm_write_leaf(33, k, wide, narrow, line, sizeof line, &len), &len, 1);
+    memset(line + len, '0', 8);
+    numbers("read_frame", alarm_read_frame(line, len + 8, head, k, wide, narrow, live, dead), head, 2);
+    alarm_frame(pool, n, 0, line, sizeof line, &len);
+    numbers("read_frame", alarm_read_frame(line, len, head, k, wide, narrow, live, dead), head, 2);
+    printf("  child %" PRIu32 " has %" PRIu32 " live, %" PRIu32 " dead, %" PRIu64 " bytes, up to %" PRIu64 "\n", narrow[0], live[0], dead[0],
+           wide[0], k[0]);
+    numbers("write_interior", alarm_write_interior(head[1], k, narrow, live, dead, wide, line, 4, &len), &len, 1);
+    numbers("write_interior", alarm_write_interior(head[1], k, narrow, live, dead, wide, line, sizeof line, &len), &len, 1);
+
+    uint8_t out[5 * 24];
+    uint64_t told[3];
+    const uint64_t asked[3] = {2, 2, 9};
+    numbers("get", alarm_get(pool, n, asked, 3, out, sizeof out, told), told, 2);
+    entries(out, told[0]);
+    numbers("scan", alarm_scan(pool, n, true, false, 3, true, true, 5, false, 0, out, sizeof out, told), told, 3);
+    entries(out, told[0]);
+    numbers("scan", alarm_scan(pool, n, false, false, 0, false, false, 0, true, 0, out, 49, told), told, 3);
+    entries(out, told[0]);
+    numbers("scan", alarm_scan(pool, n, false, false, 0, false, false, 0, false, 17, out, sizeof out, told), told, 3);
+
+    /* an expectation that is met, one that is not, and a removal of what is absent */
+    numbers("compare", alarm_compare(pool, n, keys, 2, true, 257, 16, true, 300, 20, counts), counts, 4);
+    const uint64_t six = 6;
+    numbers("compare", alarm_compare(pool, n, &six, 1, false, 0, 0, true, 0, 9, counts), counts, 4);
+    numbers("compare", alarm_compare(pool, n, keys + 4, 1, true, 261, 16, false, 0, 0, counts), counts, 4);
+    numbers("remove", alarm_remove(pool, n, keys + 4, 1, counts), counts, 4);
+    numbers("totals", alarm_totals(pool, n, totals), totals, 3);
+    free(pool);
+    return 0;
+}

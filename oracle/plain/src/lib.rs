@@ -1,0 +1,15 @@
+//! Document 01 in plain Rust: one file to an idea, after the definitions of crates/model/specs of the same names.
+//! `pool` and `sound` say what they become in bytes (docs/POOL.md).
+pub mod change;
+pub mod frame;
+pub mod list;
+pub mod look;
+pub mod pool;
+pub mod read_frame;
+pub mod refuse;
+pub mod share;
+pub mod sound;
+pub mod tree;
+pub mod types;
+
+pub use types::*;

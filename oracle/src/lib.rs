@@ -1,0 +1,19 @@
+//! The library as the oracle's programs see it, what stands in for it, and the parts of the comparison.
+pub mod alarm;
+pub mod damage;
+pub mod frames;
+pub mod library;
+pub mod parts;
+pub mod random;
+pub mod reach;
+pub mod script;
+pub mod search;
+pub mod session;
+pub mod shrink;
+pub mod stand_in;
+pub mod tally;
+pub mod trees;
+pub mod variants;
+pub mod walk;
+
+pub use library::{library, Library};

@@ -1,0 +1,97 @@
+//! The library's calls on numbers and slices. 0 means done, any other answer is document 01's number.
+use plain::{Action, Bound, Call, Expectation, Operation, Request};
+
+/// A frame by value, as the library gives it: kind (the header byte) and count, then 32 places a field.
+/// `wide` has the place, or the size sum; `narrow` the size, or the child number.
+#[derive(Clone, PartialEq, Eq)]
+pub struct RawFrame {
+    pub head: [u64; 2],
+    pub keys: [u64; 32],
+    pub wide: [u64; 32],
+    pub narrow: [u32; 32],
+    pub live: [u32; 32],
+    pub dead: [u32; 32],
+}
+
+impl RawFrame {
+    pub fn zero() -> RawFrame {
+        RawFrame { head: [0; 2], keys: [0; 32], wide: [0; 32], narrow: [0; 32], live: [0; 32], dead: [0; 32] }
+    }
+}
+
+/// Shown with zeros at the ends of its fields left out.
+impl std::fmt::Debug for RawFrame {
+    fn fmt(&self, f: &mut std::fmt::Formatter<'_>) -> std::fmt::Result {
+        fn part<T: Copy + Default + PartialEq>(v: &[T]) -> &[T] {
+            &v[..v.iter().rposition(|x| *x != T::default()).map_or(0, |i| i + 1)]
+        }
+        write!(
+            f,
+            "{:?} {:?} {:?} {:?} {:?} {:?}",
+            self.head,
+            part(&self.keys),
+            part(&self.wide),
+            part(&self.narrow),
+            part(&self.live),
+            part(&self.dead)
+        )
+    }
+}
+
+/// A bound as two flags and a key.
+pub fn bound(b: Bound) -> (bool, bool, u64) {
+    match b {
+        Bound::Unbounded => (false, false, 0),
+        Bound::Included(k) => (true, true, k),
+        Bound::Excluded(k) => (true, false, k),
+    }
+}
+
+pub trait Library {
+    fn name(&self) -> String;
+    fn pool_len(&self, nodes: u64, order: u64, minimum: u64) -> u64;
+    fn open(&self, pool: &mut [u8], nodes: u64, order: u64, minimum: u64) -> u32;
+    fn totals(&self, pool: &[u8], totals: &mut [u64; 3]) -> u32;
+    fn set(&self, pool: &mut [u8], keys: &[u64], place: u64, size: u32, counts: &mut [u64; 4]) -> u32;
+    fn set_each(&self, pool: &mut [u8], keys: &[u64], places: &[u64], sizes: &[u32], counts: &mut [u64; 4]) -> u32;
+    fn remove(&self, pool: &mut [u8], keys: &[u64], counts: &mut [u64; 4]) -> u32;
+    /// No expectation is Absent, no action is Remove.
+    fn compare(&self, pool: &mut [u8], keys: &[u64], expected: Option<(u64, u32)>, action: Option<(u64, u32)>, counts: &mut [u64; 4]) -> u32;
+    /// Told: entries written, and 1 where more were due.
+    fn get(&self, pool: &[u8], keys: &[u64], out: &mut [u8], told: &mut [u64; 2]) -> u32;
+    /// Told: entries written, 1 where more were due, nodes opened.
+    fn scan(&self, pool: &[u8], request: &Request, out: &mut [u8], told: &mut [u64; 3]) -> u32;
+    fn frame(&self, pool: &[u8], i: u64, line: &mut [u8], len: &mut u64) -> u32;
+    fn read_frame(&self, line: &[u8], frame: &mut RawFrame) -> u32;
+    fn write_leaf(&self, count: u64, keys: &[u64; 32], places: &[u64; 32], sizes: &[u32; 32], line: &mut [u8], len: &mut u64) -> u32;
+    fn write_interior(&self, count: u64, frame: &RawFrame, line: &mut [u8], len: &mut u64) -> u32;
+
+    fn batch(&self, pool: &mut [u8], c: &Call, counts: &mut [u64; 4]) -> u32 {
+        match c.operation {
+            Operation::Set(r) => self.set(pool, &c.keys, r.place, r.size, counts),
+            Operation::SetEach => self.set_each(pool, &c.keys, &c.places, &c.sizes, counts),
+            Operation::Remove => self.remove(pool, &c.keys, counts),
+            Operation::Compare(e, a) => {
+                let expected = match e {
+                    Expectation::Absent => None,
+                    Expectation::Holds(r) => Some((r.place, r.size)),
+                };
+                let action = match a {
+                    Action::Remove => None,
+                    Action::Set(r) => Some((r.place, r.size)),
+                };
+                self.compare(pool, &c.keys, expected, action, counts)
+            }
+        }
+    }
+}
+
+/// The linked library, or the stand-in where none is linked or `stand_in` asks for it.
+pub fn library(stand_in: bool) -> Box<dyn Library> {
+    #[cfg(linked)]
+    if !stand_in {
+        return Box::new(crate::alarm::Archive);
+    }
+    let _ = stand_in;
+    Box::new(crate::stand_in::StandIn)
+}

@@ -1,0 +1,57 @@
+//! The parts of the comparison, each until its time is up; every part ends at the first difference.
+use crate::library::Library;
+use crate::random::Random;
+use crate::script::{Script, Step};
+use crate::session::Difference;
+use crate::tally::Tally;
+use plain::tree::Index;
+use plain::Settings;
+use std::time::Instant;
+
+mod damaged;
+mod deep;
+mod frames;
+mod looks;
+mod openings;
+mod pools;
+mod sequences;
+mod small;
+mod table;
+
+/// What shows a difference, where it is a script; and the difference.
+pub type Found = (Option<Script>, Difference);
+pub type Part<'l> = fn(&mut Work<'l>, Instant) -> Result<(), Found>;
+
+pub struct Work<'l> {
+    pub lib: &'l dyn Library,
+    pub random: Random,
+    pub tally: Tally,
+    /// Exhaustive parts go further.
+    pub long: bool,
+}
+
+impl<'l> Work<'l> {
+    pub fn new(lib: &'l dyn Library, seed: u64, long: bool) -> Work<'l> {
+        Work { lib, random: Random::new(seed), tally: Tally::default(), long }
+    }
+
+    /// Each part with its name and the share of the time at which it ends.
+    pub fn parts() -> [(&'static str, f64, Part<'l>); 9] {
+        [
+            ("settings and lengths when opening", 0.02, Work::openings),
+            ("refusals in the table's order", 0.04, Work::table),
+            ("sequences of short batches from a new pool", 0.15, Work::sequences),
+            ("short batches on every small tree", 0.45, Work::small_trees),
+            ("lookups of every small tree", 0.55, Work::small_looks),
+            ("full ways down, of every depth", 0.62, Work::deep),
+            ("random calls on random pools", 0.85, Work::random_pools),
+            ("damaged pools", 0.95, Work::damaged_pools),
+            ("frames", 1.0, Work::frames),
+        ]
+    }
+
+    /// A difference with the script that shows it.
+    fn fail<T>(settings: Settings, start: Option<&Index>, steps: &[Step], r: Result<T, Difference>) -> Result<T, Found> {
+        r.map_err(|d| (Some(Script { settings, start: start.cloned(), steps: steps.to_vec() }), d))
+    }
+}

@@ -1,0 +1,76 @@
+//! Calls to which several numbers of the table apply: the first of them must be given.
+use super::{Found, Work};
+use crate::script::Step;
+use crate::session::Session;
+use crate::trees;
+use plain::tree::{Index, Node};
+use plain::{Action, Call, Expectation, Operation, Reference, Settings};
+use std::time::Instant;
+
+/// Two leaves at depth 8, each below six nodes of one child.
+fn deepest(nodes: usize) -> Index {
+    let chain = |k| (0..6).fold(Node::leaf(0, vec![trees::entry_for(k)]), |n, _| Node::interior(0, vec![n]));
+    trees::placed(Node::interior(0, vec![chain(1), chain(2)]), nodes, None)
+}
+
+/// Every operation on some keys, with so many places and sizes lent.
+fn every(keys: &[u64], places: usize, sizes: usize) -> Vec<Call> {
+    let r = Reference { place: 3, size: 3 };
+    let operations = [
+        Operation::Set(r),
+        Operation::SetEach,
+        Operation::Remove,
+        Operation::Compare(Expectation::Absent, Action::Set(r)),
+        Operation::Compare(Expectation::Absent, Action::Remove),
+        Operation::Compare(Expectation::Holds(r), Action::Remove),
+    ];
+    operations.into_iter().map(|operation| Call { operation, places: vec![7; places], sizes: vec![8; sizes], keys: keys.to_vec() }).collect()
+}
+
+impl Work<'_> {
+    pub(super) fn table(&mut self, _until: Instant) -> Result<(), Found> {
+        let st = |nodes| Settings { nodes, order: 4, minimum: 2 };
+        let few = trees::all(&[2, 4, 6, 8, 10], 4, 2).swap_remove(0);
+        let pools =
+            [(st(8), None), (st(16), None), (st(16), Some(deepest(16))), (st(60), Some(deepest(60))), (st(9), Some(trees::placed(few, 9, None)))];
+        for (settings, start) in pools {
+            let n = plain::pool::length(&settings) / 8;
+            for damage in
+                [None, Some(Step::Put { word: 0, value: 2 }), Some(Step::Put { word: n - 1, value: 1 }), Some(Step::Resize { len: 8 * n - 8 })]
+            {
+                self.all_calls(settings, start.as_ref(), damage)?;
+            }
+        }
+        Ok(())
+    }
+
+    fn all_calls(&mut self, st: Settings, start: Option<&Index>, damage: Option<Step>) -> Result<(), Found> {
+        let mut first = Self::fail(st, start, &[], Session::new(self.lib, st, start))?;
+        let before: Vec<Step> = damage.into_iter().collect();
+        for step in &before {
+            Self::fail(st, start, &before, first.step(step))?;
+        }
+        let mut steps = vec![];
+        for len in 0..=st.order + 2 {
+            let up: Vec<u64> = (1..=len as u64).collect();
+            let down: Vec<u64> = up.iter().rev().copied().collect();
+            let turned: Vec<u64> = up.iter().map(|&k| if k == len as u64 { 1 } else { k + 1 }).collect();
+            for keys in [up, down, turned, vec![5; len]] {
+                for places in [len.saturating_sub(1), len, len + 1] {
+                    for sizes in [len.saturating_sub(1), len, len + 1] {
+                        steps.extend(every(&keys, places, sizes).into_iter().map(Step::Batch));
+                    }
+                }
+                steps.extend([0, 23, 24, 100].map(|room| Step::Get { keys: keys.clone(), room }));
+            }
+        }
+        steps.extend([0, 1, 14, 15, 16, 17, u64::MAX].iter().flat_map(|&i| [0, 1, 2, 500].map(|room| Step::Frame { i, room })));
+        for step in steps {
+            let mut s = first.fork();
+            let both: Vec<Step> = before.iter().cloned().chain([step.clone()]).collect();
+            Self::fail(st, start, &both, s.step(&step))?;
+            self.tally.add(&s.tally);
+        }
+        Ok(())
+    }
+}

@@ -1,0 +1,70 @@
+//! A script that shows a difference, made smaller as long as it still shows one.
+use crate::library::Library;
+use crate::script::{Script, Step};
+use crate::session::{Difference, Session};
+use plain::Operation;
+
+fn fails(lib: &dyn Library, s: &Script) -> Option<(usize, Difference)> {
+    Session::run(lib, s).err()
+}
+
+/// The same step with one key less, in every way.
+fn fewer_keys(step: &Step) -> Vec<Step> {
+    match step {
+        Step::Batch(c) => (0..c.keys.len())
+            .map(|i| {
+                let mut c = c.clone();
+                c.keys.remove(i);
+                if c.operation == Operation::SetEach && i < c.places.len() && i < c.sizes.len() {
+                    c.places.remove(i);
+                    c.sizes.remove(i);
+                }
+                Step::Batch(c)
+            })
+            .collect(),
+        Step::Get { keys, room } => (0..keys.len())
+            .map(|i| {
+                let mut keys = keys.clone();
+                keys.remove(i);
+                Step::Get { keys, room: *room }
+            })
+            .collect(),
+        _ => vec![],
+    }
+}
+
+pub fn shrink(lib: &dyn Library, mut s: Script) -> (Script, Difference) {
+    let (last, mut why) = fails(lib, &s).expect("a script that shows a difference");
+    s.steps.truncate(last + 1);
+    loop {
+        let mut smaller = false;
+        let mut part = (s.steps.len() / 2).max(1);
+        while part > 0 && !s.steps.is_empty() {
+            let mut at = 0;
+            while at < s.steps.len() {
+                let mut t = s.clone();
+                t.steps.drain(at..(at + part).min(s.steps.len()));
+                match fails(lib, &t) {
+                    Some((last, d)) => {
+                        t.steps.truncate(last + 1);
+                        (s, why, smaller) = (t, d, true);
+                    }
+                    None => at += part,
+                }
+            }
+            part /= 2;
+        }
+        for i in 0..s.steps.len() {
+            while let Some((t, d)) = fewer_keys(&s.steps[i]).into_iter().find_map(|step| {
+                let mut t = s.clone();
+                t.steps[i] = step;
+                fails(lib, &t).map(|(_, d)| (t, d))
+            }) {
+                (s, why, smaller) = (t, d, true);
+            }
+        }
+        if !smaller {
+            return (s, why);
+        }
+    }
+}

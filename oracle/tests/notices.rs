@@ -1,0 +1,212 @@
+//! The comparison notices a library that is wrong in one thing.
+use oracle::library::{Library, RawFrame};
+use oracle::parts::Work;
+use oracle::shrink::shrink;
+use oracle::stand_in::StandIn;
+use plain::pool::{image, put, word};
+use plain::sound::index_of;
+use plain::{Call, Operation, Request};
+use std::time::{Duration, Instant};
+
+#[derive(Clone, Copy, Debug, PartialEq)]
+enum Fault {
+    None,
+    RefusesAll,
+    StoresNothing,
+    CountsReplacedAsAdded,
+    TellsCountsWhenRefused,
+    ChangesPoolWhenRefused,
+    TakesHighestSlot,
+    LeavesAFreedWord,
+    ForgetsSix,
+    TouchesBehindEntries,
+    MoreWhenJustFull,
+    OpensOneTooMany,
+    ListsTheDead,
+    HidesTheDeadFromGet,
+    TakesAWordBehindTheRows,
+    TestsFiveFirst,
+    LeavesOldEntriesInAFrame,
+    TouchesBehindALine,
+    ReadsCapitals,
+    WritesDisorder,
+    OpensWithAnyMinimum,
+}
+use Fault::*;
+
+struct Wrong(Fault);
+
+impl Wrong {
+    fn is(&self, f: Fault) -> bool {
+        self.0 == f
+    }
+
+    /// A batch, with this fault.
+    fn done(&self, pool: &mut [u8], c: &Call, counts: &mut [u64; 4]) -> u32 {
+        let before = pool.to_vec();
+        if self.is(RefusesAll) {
+            return 7;
+        }
+        if self.is(TestsFiveFirst) && plain::refuse::descend(&c.keys) && c.keys.len() < 4 {
+            return 5;
+        }
+        if let (true, Some((st, mut x))) = (self.is(TakesHighestSlot), index_of(pool)) {
+            if plain::refuse::refusal(&st, c, &x) == 0 {
+                x.unused.reverse();
+                let (x, told) = plain::change::batch(&st, c, x);
+                pool.copy_from_slice(&image(&st, &x));
+                *counts = told.numbers();
+                return 0;
+            }
+        }
+        let number = StandIn.batch(pool, c, counts);
+        match (self.0, number) {
+            (StoresNothing, 0) => pool.copy_from_slice(&before),
+            (CountsReplacedAsAdded, 0) => *counts = [counts[0] + counts[1], 0, counts[2], counts[3]],
+            (TellsCountsWhenRefused, 5) => *counts = [0; 4],
+            (ChangesPoolWhenRefused, 7) => pool[0] ^= 1,
+            (LeavesAFreedWord, 0) if counts[2] > 0 => {
+                let freed = (4..pool.len() / 8).rev().find(|&i| word(pool, i) == 0 && word(&before, i) != 0);
+                if let Some(i) = freed {
+                    put(pool, i, word(&before, i));
+                }
+            }
+            (ForgetsSix, 6) => return 7,
+            _ => {}
+        }
+        number
+    }
+}
+
+impl Library for Wrong {
+    fn name(&self) -> String {
+        format!("{:?}", self.0)
+    }
+    fn pool_len(&self, nodes: u64, order: u64, minimum: u64) -> u64 {
+        StandIn.pool_len(nodes, order, minimum)
+    }
+    fn open(&self, pool: &mut [u8], nodes: u64, order: u64, minimum: u64) -> u32 {
+        StandIn.open(pool, nodes, order, if self.is(OpensWithAnyMinimum) { 1 } else { minimum })
+    }
+    fn totals(&self, pool: &[u8], totals: &mut [u64; 3]) -> u32 {
+        let mut mended = pool.to_vec();
+        if self.is(TakesAWordBehindTheRows) && pool.len() >= 8 {
+            let last = pool.len() / 8 - 1;
+            put(&mut mended, last, 0);
+        }
+        StandIn.totals(&mended, totals)
+    }
+    fn set(&self, pool: &mut [u8], keys: &[u64], place: u64, size: u32, counts: &mut [u64; 4]) -> u32 {
+        self.done(pool, &Call::set(keys, place, size), counts)
+    }
+    fn set_each(&self, pool: &mut [u8], keys: &[u64], places: &[u64], sizes: &[u32], counts: &mut [u64; 4]) -> u32 {
+        self.done(pool, &Call::set_each(keys, places, sizes), counts)
+    }
+    fn remove(&self, pool: &mut [u8], keys: &[u64], counts: &mut [u64; 4]) -> u32 {
+        self.done(pool, &Call { operation: Operation::Remove, ..Call::remove(keys) }, counts)
+    }
+    fn compare(&self, pool: &mut [u8], keys: &[u64], expected: Option<(u64, u32)>, action: Option<(u64, u32)>, counts: &mut [u64; 4]) -> u32 {
+        StandIn.compare(pool, keys, expected, action, counts)
+    }
+    fn get(&self, pool: &[u8], keys: &[u64], out: &mut [u8], told: &mut [u64; 2]) -> u32 {
+        let number = StandIn.get(pool, keys, out, told);
+        if number == 0 {
+            let n = 24 * told[0] as usize;
+            match self.0 {
+                TouchesBehindEntries if out.len() > n => out[n] = 0,
+                MoreWhenJustFull if n == out.len() => told[1] = 1,
+                HidesTheDeadFromGet if n >= 24 && out[n - 16..n - 8] == [0; 8] => told[0] -= 1,
+                _ => {}
+            }
+        }
+        number
+    }
+    fn scan(&self, pool: &[u8], q: &Request, out: &mut [u8], told: &mut [u64; 3]) -> u32 {
+        let number = StandIn.scan(pool, q, out, told);
+        match self.0 {
+            OpensOneTooMany if number == 0 && q.down && told[1] == 1 => told[2] += 1,
+            ListsTheDead if number == 0 => {
+                let x = index_of(pool).expect("sound").1;
+                told[0] = told[0].max((x.entries().len() as u64).min(out.len() as u64 / 24).min(1));
+            }
+            _ => {}
+        }
+        number
+    }
+    fn frame(&self, pool: &[u8], i: u64, line: &mut [u8], len: &mut u64) -> u32 {
+        let number = StandIn.frame(pool, i, line, len);
+        if self.is(TouchesBehindALine) && number == 0 && line.len() > *len as usize {
+            line[*len as usize] = b'\n';
+        }
+        number
+    }
+    fn read_frame(&self, line: &[u8], frame: &mut RawFrame) -> u32 {
+        let old = frame.clone();
+        let lower = line.to_ascii_lowercase();
+        let number = StandIn.read_frame(if self.is(ReadsCapitals) { &lower } else { line }, frame);
+        if self.is(LeavesOldEntriesInAFrame) && number == 0 && frame.head[1] < 32 {
+            frame.keys[31] = old.keys[31];
+        }
+        number
+    }
+    fn write_leaf(&self, count: u64, keys: &[u64; 32], places: &[u64; 32], sizes: &[u32; 32], line: &mut [u8], len: &mut u64) -> u32 {
+        match StandIn.write_leaf(count, keys, places, sizes, line, len) {
+            12 if self.is(WritesDisorder) => 0,
+            n => n,
+        }
+    }
+    fn write_interior(&self, count: u64, f: &RawFrame, line: &mut [u8], len: &mut u64) -> u32 {
+        StandIn.write_interior(count, f, line, len)
+    }
+}
+
+/// The difference that the parts find, each within a second or so.
+fn noticed(f: Fault) -> Option<String> {
+    let lib = Wrong(f);
+    let mut work = Work::new(&lib, 3, false);
+    for (_, _, part) in Work::parts() {
+        if let Err((script, difference)) = part(&mut work, Instant::now() + Duration::from_millis(700)) {
+            return Some(match script {
+                Some(s) => shrink(&lib, s).1,
+                Option::None => difference,
+            });
+        }
+    }
+    Option::None
+}
+
+#[test]
+fn each_fault_is_noticed() {
+    let faults = [
+        RefusesAll,
+        StoresNothing,
+        CountsReplacedAsAdded,
+        TellsCountsWhenRefused,
+        ChangesPoolWhenRefused,
+        TakesHighestSlot,
+        LeavesAFreedWord,
+        ForgetsSix,
+        TouchesBehindEntries,
+        MoreWhenJustFull,
+        OpensOneTooMany,
+        ListsTheDead,
+        HidesTheDeadFromGet,
+        TakesAWordBehindTheRows,
+        TestsFiveFirst,
+        LeavesOldEntriesInAFrame,
+        TouchesBehindALine,
+        ReadsCapitals,
+        WritesDisorder,
+        OpensWithAnyMinimum,
+    ];
+    for f in faults {
+        let found = noticed(f);
+        println!("{f:?}: {}", found.as_deref().unwrap_or("NOT NOTICED"));
+        assert!(found.is_some(), "{f:?} is not noticed");
+    }
+}
+
+#[test]
+fn no_fault_none_noticed() {
+    assert_eq!(noticed(None), Option::None);
+}
