@@ -150,7 +150,7 @@ fn batches(lib: &dyn Library, f: &mut Filled, time: Duration, ascending: bool) -
     let filled = f.pool.clone();
     let set = median_of(time, |turn| {
         // worn by many turns, a small pool might run short of nodes
-        if turn % 64 == 0 {
+        if turn % 8 == 0 {
             f.pool.copy_from_slice(&filled);
         }
         let keys = fresh(&mut r);
