@@ -1,6 +1,6 @@
 -- What makes a tree right, row by row: a leaf's row holds an entry and an interior's a child, so that one law over the height serves both.
 -- Assumes nothing.
-use mathlib.Core.Path.{_≡_}
+use mathlib.Core.Path.{_≡_, subst}
 use mathlib.Core.List.{List, [], _∷_, _++_, map}
 use Prim.Native.Nat.{ℕ, zero, suc, _+_, _-_, _≤_, _<_}
 use native.Mathlib.Omega.{arith}
@@ -18,7 +18,7 @@ use Rattle.model.proofs.Lists.{all-append, all-left, all-right, all-head, all-t
 use Rattle.model.proofs.Trees.{flat, slotsIn}
 use Rattle.tree.specs.Bridge.{entryOf, childOf, treeAt}
 use Rattle.tree.specs.Pool.{Kinds, EachChild, Separates, Totalled}
-use Rattle.survey.specs.Checked.{Last, after, Beyond, Head, Tail, Right}
+use Rattle.survey.specs.Checked.{Last, after, Beyond, There, Head, Opened, Tail, Right}
 use Rattle.survey.proofs.Ascents.{Ascends, ascends-append, ascends-left, ascends-right, ascends-beyond, ascends-sorted, sorted-ascends}
 
 -- WHAT A ROW HOLDS: an entry, or a child
@@ -180,7 +180,7 @@ module _ (st : Settings) (W : List ℕ) where
       let rs : List Row = nth ns s .rows in
       let es : List Entry = flat zero (itemsAt ns zero rs) in
       record {
-        kinds = g .kind;
+        kinds = g .there .kind;
         some = omega (arith, g .some, length-map (nth ns s .rows) entryOf);
         few = omega (arith, g .few, length-map (nth ns s .rows) entryOf);
         whole = k .whole;
@@ -196,7 +196,7 @@ module _ (st : Settings) (W : List ℕ) where
       let rs : List Row = nth ns s .rows in
       let es : List Entry = flat (suc h) (itemsAt ns (suc h) rs) in
       record {
-        kinds = (g .kind, k .kinds);
+        kinds = (g .there .kind, k .kinds);
         some = omega (arith, g .some, length-map (nth ns s .rows) (itemAt ns (suc h)));
         few = omega (arith, g .few, length-map (nth ns s .rows) (itemAt ns (suc h)));
         whole = k .whole;
@@ -217,20 +217,35 @@ used-low [] s k e = absurd (omega arith)
 used-low (n ∷ ns) zero k e = omega arith
 used-low (n ∷ ns) (suc s) k e = omega (arith, used-low ns s k e)
 
+-- a node of the right kinds is there, and so are its children
+pub kinds-there : (st : Settings) (W : List ℕ) (h s : ℕ) → Kinds (nodes st W) h s → There st W h s
+kinds-there st W zero s g = record { slot = omega (arith, used-low (nodes st W) s 0 g, length-nodes st W); kind = g }
+kinds-there st W (suc h) s g = record { slot = omega (arith, used-low (nodes st W) s 1 (g .0), length-nodes st W); kind = g .0 }
+
+children-there : (st : Settings) (W : List ℕ) (h : ℕ) (rs : List Row) → All (λ r. Kinds (nodes st W) h (childOf r)) rs → All (λ r. There st W h (childOf r)) rs
+children-there st W h [] all = none
+children-there st W h (r ∷ rs) all = one (kinds-there st W h (childOf r) (all-head all)) (children-there st W h rs (all-tail all))
+
 pub right-head : (st : Settings) (W : List ℕ) (h s least : ℕ) (p : Last) (left : ℕ) → Right st W h s least p left → Head st W h s least left
 right-head st W zero s least p left g =
     record {
-      slot = omega (arith, used-low (nodes st W) s 0 (g .kinds), length-nodes st W);
-      kind = g .kinds;
+      there = kinds-there st W zero s (g .kinds);
       some = omega (arith, g .some, length-map (rowsAt st W s) entryOf);
       few = omega (arith, g .few, length-map (rowsAt st W s) entryOf);
       opens = omega (arith, g .most);
     }
 right-head st W (suc h) s least p left g =
     record {
-      slot = omega (arith, used-low (nodes st W) s 1 (g .kinds .0), length-nodes st W);
-      kind = g .kinds .0;
+      there = kinds-there st W (suc h) s (g .kinds);
       some = omega (arith, g .some, length-map (rowsAt st W s) (itemAt (nodes st W) (suc h)));
       few = omega (arith, g .few, length-map (rowsAt st W s) (itemAt (nodes st W) (suc h)));
       opens = omega (arith, g .most);
+    }
+
+pub right-opened : (st : Settings) (W : List ℕ) (h s least : ℕ) (p : Last) (left : ℕ) → Right st W (suc h) s least p left → Opened st W (suc h) s least left
+right-opened st W h s least p left g =
+    let below : h ≡ suc h - 1 = omega arith in
+    record {
+      head = right-head st W (suc h) s least p left g;
+      children = subst (λ (k : ℕ). All (λ r. There st W k (childOf r)) (rowsAt st W s)) below (children-there st W h (rowsAt st W s) (g .kinds .1));
     }

@@ -34,7 +34,8 @@ use Rattle.survey.specs.declared.Findings.{Findings}
 use Rattle.survey.specs.declared.walk.Part.{Part}
 use Rattle.survey.specs.Surveyed.{Surveyed, Headed, unsound}
 use Rattle.survey.specs.Spared.{Idle}
-use Rattle.survey.specs.Checked.{unmet, Tail, Right, Checked, leastRoot, SoundTree}
+use Rattle.survey.specs.Checked.{unmet, There, Tail, Right, Checked, leastRoot, SoundTree}
+use Rattle.survey.proofs.Rows.{kinds-there}
 use Rattle.survey.proofs.Places.{hit-most, each-once}
 use Rattle.survey.proofs.Apart.{slots-once}
 
@@ -161,6 +162,9 @@ module _ (st : Settings) (W : List ℕ) (used : ℕ) (counted : used + length (u
 
 pub verdict-deep : (st : Settings) (W : List ℕ) (h : ℕ) → h ≡ heightAt (nodes st W) 8 0 → 7 < h → SoundTree st W → ⊥
 verdict-deep st W h e lt s = omega (arith, s .sound .shallow)
+
+pub verdict-there : (st : Settings) (W : List ℕ) (h : ℕ) → h ≡ heightAt (nodes st W) 8 0 → SoundTree st W → There st W h 0
+verdict-there st W h e s = rw e (kinds-there st W (heightAt (nodes st W) 8 0) 0 (s .sound .kinds))
 
 -- THE SURVEY
 

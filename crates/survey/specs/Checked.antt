@@ -1,5 +1,5 @@
 -- What the walk over a tree tests, node by node, and what it has found when it comes back from one. Assumes nothing.
-use Prim.Native.Nat.{ℕ, zero, suc, _+_, _≤_, _<_}
+use Prim.Native.Nat.{ℕ, zero, suc, _+_, _-_, _≤_, _<_}
 use mathlib.Core.Path.{_≡_}
 use mathlib.Core.Bool.{Bool, true, false}
 use mathlib.Core.List.{List, [], _∷_}
@@ -14,7 +14,7 @@ use Rattle.model.specs.Answer.{Tells}
 use Rattle.model.specs.Lists.{All}
 use Rattle.model.specs.Tree.{len, entries, slots, slotsOf, total, noTotals, plus}
 use Rattle.model.specs.Sound.{Whole, Sorted, Fits}
-use Rattle.tree.specs.Bridge.{kindFor, entryOf, treeAt, unusedOf}
+use Rattle.tree.specs.Bridge.{kindFor, childOf, entryOf, treeAt, unusedOf}
 use Rattle.tree.specs.Pool.{heightAt, indexIn, Kinds, EachChild, Separates, Totalled, Adds, SoundNodes}
 use Rattle.survey.specs.declared.walk.Part.{Part}
 
@@ -46,13 +46,26 @@ Beyond p e = p .some ≡ true → p .key < e .key
 
 -- A NODE
 
--- what is tested before its rows are: a walk that may open `left` more nodes comes to slot s, where a node of height h with `least` items or more is to be
-pub record Head (st : Settings) (W : List ℕ) (h s least left : ℕ) : Type 0 where
+-- slot s is there, with a node of height h
+pub record There (st : Settings) (W : List ℕ) (h s : ℕ) : Type 0 where
   pub slot : s < st .nodes
   pub kind : nth (nodes st W) s .kind ≡ kindFor h
+
+-- each of some rows names a node of height h
+abbrev pub EachThere : Settings → List ℕ → ℕ → List Row → Type 0
+EachThere st W h rs = All (λ r. There st W h (childOf r)) rs
+
+-- what is tested before its rows are: a walk that may open `left` more nodes comes to slot s, where a node of height h with `least` items or more is to be
+pub record Head (st : Settings) (W : List ℕ) (h s least left : ℕ) : Type 0 where
+  pub there : There st W h s
   pub some : least ≤ length (rowsAt st W s)
   pub few : length (rowsAt st W s) ≤ st .order
   pub opens : 0 < left
+
+-- what is tested of an interior before the walk goes down from it: each of its rows names a node one level below
+pub record Opened (st : Settings) (W : List ℕ) (h s least left : ℕ) : Type 0 where
+  pub head : Head st W h s least left
+  pub children : EachThere st W (h - 1) (rowsAt st W s)
 
 -- nothing but zeros is past the rows of slot s
 abbrev pub Tail : Settings → List ℕ → ℕ → Type 0

@@ -5,8 +5,9 @@
 //
 // No bytes take it longer than a sound pool of their length takes. The pass reads a slot in use at its first word only. The walk may
 // open as many nodes as there are slots in use, and each is charged when it is opened. So whatever the rows name, be it one child
-// twice, the root again or a node of another level, the walk opens no more nodes than the pool has. And a count is tested before a
-// row is read: of a node that says it has more rows than order, none is.
+// twice, the root again or a node of another level, the walk opens no more nodes than the pool has. A count is tested before a row
+// is read: of a node that says it has more rows than order, none is. And for each row of an interior that is opened one word is read
+// of the child that it names.
 //
 // That each node is reached once needs no marks. A slot shows a key, the first one below it; a slot reached twice would show it
 // twice, and the keys must ascend. The nodes reached are then as many as the slots in use, so every one of these is reached.

@@ -1,8 +1,12 @@
 // The walk over the tree of a pool that has the right length. It reads each node that it opens from its first word to its last: head,
 // rows, and the zeros past them.
+//
+// Before it goes down from an interior it reads the first word of every child. Where the nodes of a tree lie scattered over a large
+// pool, a first word is waited for; in a loop of their own the children's words come together, in place of one after another.
 ghost use mathlib.Core.Path.{_≡_};
 ghost use mathlib.Core.Bool.{false};
-ghost use Prim.Native.Nat.{_<_};
+ghost use Prim.Native.Nat.{_<_, _≤_};
+ghost use lib.ListN.{length};
 ghost use Rattle.words.specs.Words.{words};
 ghost use Rattle.slots.specs.Slots.{Shape};
 ghost use Rattle.slots.specs.Nodes.{nodes, rowsAt};
@@ -10,7 +14,7 @@ ghost use Rattle.model.specs.Answer.{Tells};
 ghost use Rattle.model.specs.Tree.{adds};
 ghost use Rattle.tree.specs.Bridge.{childOf, entryOf};
 ghost use Rattle.tree.specs.Pool.{firstChild, heightAt};
-ghost use Rattle.survey.specs.Checked.{last, Head, Checked, begun, grown, EntryRight, RowRight, Addable, leastRoot, Known, SoundTree};
+ghost use Rattle.survey.specs.Checked.{last, There, EachThere, Head, Opened, Checked, begun, grown, EntryRight, RowRight, Addable, leastRoot, Known, SoundTree};
 use model::Settings;
 use model::Totals;
 use slots::Row;
@@ -64,6 +68,9 @@ pub fn tree_right(pool: &[u8], st: Settings, height: usize, used: usize) -> bool
     if 7 < height {
         return false;
     }
+    if !there(pool, st, height, 0) {
+        return false;
+    }
     let least = least_root(height);
     let root = check_node(pool, st, height, 0, least, false, 0, used);
     if !root.ok {
@@ -85,6 +92,7 @@ fn check_node(
     left: usize,
 ) -> Part
     requires { ⌜ Shape st (words (now pool)) ⌝ }
+    requires { ⌜ There st (words (now pool)) height s ⌝ }
     ensures { λ r. ⌜ Checked st (words (now (pool .entry))) height s least (last some key) left r ⌝ }
 {
     if height == 0 {
@@ -105,10 +113,11 @@ fn check_interior(
     left: usize,
 ) -> Part
     requires { ⌜ Shape st (words (now pool)) ⌝ }
+    requires { ⌜ There st (words (now pool)) height s ⌝ }
     requires { ⌜ 0 < height ⌝ }
     ensures { λ r. ⌜ Checked st (words (now (pool .entry))) height s least (last some key) left r ⌝ }
 {
-    if !head_right(pool, st, height, s, least, left) {
+    if !interior_right(pool, st, height, s, least, left) {
         return fault();
     }
     let n = slots::raw_count(pool, st, s);
@@ -151,6 +160,7 @@ fn check_leaf(
     left: usize,
 ) -> Part
     requires { ⌜ Shape st (words (now pool)) ⌝ }
+    requires { ⌜ There st (words (now pool)) 0 s ⌝ }
     ensures { λ r. ⌜ Checked st (words (now (pool .entry))) 0 s least (last some key) left r ⌝ }
 {
     if !head_right(pool, st, 0, s, least, left) {
@@ -175,18 +185,62 @@ fn check_leaf(
     part
 }
 
-// Whether slot `s` holds a node of height `height`, with `least` to order rows, that the walk may open.
-fn head_right(pool: &[u8], st: Settings, height: usize, s: usize, least: usize, left: usize) -> bool
+// Whether the interior in slot `s` may be gone down from: its head is right, and each of its rows names a node one level below.
+fn interior_right(
+    pool: &[u8],
+    st: Settings,
+    height: usize,
+    s: usize,
+    least: usize,
+    left: usize,
+) -> bool
     requires { ⌜ Shape st (words (now pool)) ⌝ }
-    ensures { λ r. ⌜ Tells r (Head st (words (now (pool .entry))) height s least left) ⌝ }
+    requires { ⌜ There st (words (now pool)) height s ⌝ }
+    requires { ⌜ 0 < height ⌝ }
+    ensures { λ r. ⌜ Tells r (Opened st (words (now (pool .entry))) height s least left) ⌝ }
 {
-    if left == 0 {
+    if !head_right(pool, st, height, s, least, left) {
         return false;
     }
+    children_there(pool, st, height - 1, s)
+}
+
+// Whether each row of slot `s`, which are at most order, names a slot with a node of height `height`.
+fn children_there(pool: &[u8], st: Settings, height: usize, s: usize) -> bool
+    requires { ⌜ Shape st (words (now pool)) × (s < st .nodes) ⌝ }
+    requires { ⌜ length (rowsAt st (words (now pool)) s) ≤ st .order ⌝ }
+    ensures { λ r. ⌜ Tells r (EachThere st (words (now (pool .entry))) height (rowsAt st (words (now (pool .entry))) s)) ⌝ }
+{
+    let n = slots::raw_count(pool, st, s);
+    let mut i = 0;
+    while i < n {
+        let row = slots::raw_row(pool, st, s, i);
+        if !there(pool, st, height, child_of(row)) {
+            return false;
+        }
+        i += 1;
+    }
+    true
+}
+
+// Whether slot `s` is there, with a node of height `height`.
+fn there(pool: &[u8], st: Settings, height: usize, s: usize) -> bool
+    requires { ⌜ Shape st (words (now pool)) ⌝ }
+    ensures { λ r. ⌜ Tells r (There st (words (now (pool .entry))) height s) ⌝ }
+{
     if st.nodes <= s {
         return false;
     }
-    if slots::raw_kind(pool, st, s) != tree::kind_for(height) {
+    slots::raw_kind(pool, st, s) == tree::kind_for(height)
+}
+
+// Whether the node in slot `s` has `least` to order rows, and the walk may open it.
+fn head_right(pool: &[u8], st: Settings, height: usize, s: usize, least: usize, left: usize) -> bool
+    requires { ⌜ Shape st (words (now pool)) ⌝ }
+    requires { ⌜ There st (words (now pool)) height s ⌝ }
+    ensures { λ r. ⌜ Tells r (Head st (words (now (pool .entry))) height s least left) ⌝ }
+{
+    if left == 0 {
         return false;
     }
     let n = slots::raw_count(pool, st, s);

@@ -16,10 +16,10 @@ use Rattle.slots.specs.Nodes.{rowsAt}
 use Rattle.model.proofs.Answers.{told-no}
 use Rattle.tree.specs.Bridge.{childOf}
 use Rattle.survey.specs.declared.walk.Part.{Part}
-use Rattle.survey.specs.Checked.{Last, last, Head, Right, Checked, RowRight}
-use Rattle.survey.proofs.Rows.{right-rows, right-head, right-tail}
+use Rattle.survey.specs.Checked.{Last, last, There, Head, Opened, Right, Checked, RowRight}
+use Rattle.survey.proofs.Rows.{right-rows, right-opened, right-tail}
 use Rattle.survey.proofs.Walks.{Going, going-none, checked-not, checked-end, turn-fault, turn-addable, turn-on}
-use Rattle.survey.proofs.Heads.{row-raw, head-count, tail-told}
+use Rattle.survey.proofs.Heads.{row-raw, head-count, all-at, tail-told}
 use Rattle.survey.proofs.walk.check_interior.Reads as check-interior
 use Rattle.survey.proofs.walk.check_interior.Kinds as check-interior-kinds
 use Rattle.survey.proofs.walk.+check_interior+check_node.Lts-check_interior as check-interior-lts
@@ -34,7 +34,7 @@ use Rattle.survey.proofs.walk.check_leaf.Reads as check-leaf-reads
 use Rattle.survey.proofs.walk.child_of.Reads as child-of-reads
 use Rattle.survey.proofs.walk.fault.Reads as fault-reads
 use Rattle.survey.proofs.walk.grow.Reads as grow-reads
-use Rattle.survey.proofs.walk.head_right.Reads as head-right-reads
+use Rattle.survey.proofs.walk.interior_right.Reads as interior-right-reads
 use Rattle.survey.proofs.walk.row_right.Reads as row-right-reads
 use Rattle.survey.proofs.walk.+check_interior+check_node.{statement}
 use Rattle.survey.proofs.walk.+check_interior+check_node.Tie.{close}
@@ -79,7 +79,7 @@ abbrev μ : check-interior-lts.MeasureT-loop
 -- what the calls ask for and tell
 abbrev interior-calls : ℕ → check-interior-lts.Claims
 interior-calls t =
-    (head-right-reads.Asked, head-right-reads.Learnt, fault-reads.Asked, fault-reads.Learnt, raw-count-reads.Asked, raw-count-reads.Learnt, begin-reads.Asked, begin-reads.Learnt, raw-row-reads.Asked, raw-row-reads.Learnt, child-of-reads.Asked, child-of-reads.Learnt, check-node-below t, check-node.Post, row-right-reads.Asked, row-right-reads.Learnt, grow-reads.Asked, grow-reads.Learnt, tail-zero-reads.Asked, tail-zero-reads.Learnt)
+    (interior-right-reads.Asked, interior-right-reads.Learnt, fault-reads.Asked, fault-reads.Learnt, raw-count-reads.Asked, raw-count-reads.Learnt, begin-reads.Asked, begin-reads.Learnt, raw-row-reads.Asked, raw-row-reads.Learnt, child-of-reads.Asked, child-of-reads.Learnt, check-node-below t, check-node.Post, row-right-reads.Asked, row-right-reads.Learnt, grow-reads.Asked, grow-reads.Learnt, tail-zero-reads.Asked, tail-zero-reads.Learnt)
 
 abbrev node-calls : ℕ → check-node-lts.Claims
 node-calls t = (check-leaf-reads.Asked, check-leaf-reads.Learnt, check-interior-below t, check-interior.Post)
@@ -90,25 +90,27 @@ returns : (t : ℕ) → check-interior-lts.Need-returns (interior-calls t) (chec
 returns t c =
     let a = c .before .before .before .before .args in
     let W = words (a .pool .now) in
-    let rs : List Row = rowsAt (a .st) W (a .s) in
+    let high : a .height ≡ suc (a .height - 1) = omega (arith, c .before .before .before .before .pre .1 .1 .1) in
     checked-not (a .st) W (a .height) (a .s) (a .least) (last (a .some) (a .key)) (a .left) (c .fault .result) (c .fault .ensures)
-    (λ k. told-no (c .before .before .head-right .ensures) (not-true (c .before .before .head-right .result) (c .before .if1 .taken))
-    (right-head (a .st) W (a .height) (a .s) (a .least) (last (a .some) (a .key)) (a .left) k))
+    (λ k. told-no (c .before .before .interior-right .ensures) (not-true (c .before .before .interior-right .result) (c .before .if1 .taken))
+    (subst (λ (h : ℕ). Opened (a .st) W h (a .s) (a .least) (a .left)) (sym high)
+    (right-opened (a .st) W (a .height - 1) (a .s) (a .least) (last (a .some) (a .key)) (a .left)
+    (subst (λ (h : ℕ). Right (a .st) W h (a .s) (a .least) (last (a .some) (a .key)) (a .left)) high k))))
 
 raw-count-requires : (t : ℕ) → check-interior-lts.Need-raw-count-requires (interior-calls t) (check-interior-at t) check-interior.Post Inv μ
 raw-count-requires t c κs =
     let a = c .before .before .before .args in
     let W = words (a .pool .now) in
     let rs : List Row = rowsAt (a .st) W (a .s) in
-    let head : Head (a .st) W (a .height) (a .s) (a .least) (a .left) = c .before .head-right .ensures .holds (not-false (c .before .head-right .result) (c .if1 .left)) in
-    (c .before .before .before .pre .1 .0, head .slot)
+    let head : Head (a .st) W (a .height) (a .s) (a .least) (a .left) = (c .before .interior-right .ensures .holds (not-false (c .before .interior-right .result) (c .if1 .left))) .head in
+    (c .before .before .before .pre .1 .0, head .there .slot)
 
 sub-begin : (t : ℕ) → check-interior-lts.Need-sub-begin (interior-calls t) (check-interior-at t) check-interior.Post Inv μ
 sub-begin t c =
     let a = c .before .before .before .before .args in
     let W = words (a .pool .now) in
     let rs : List Row = rowsAt (a .st) W (a .s) in
-    let head : Head (a .st) W (a .height) (a .s) (a .least) (a .left) = c .before .before .head-right .ensures .holds (not-false (c .before .before .head-right .result) (c .before .if1 .left)) in
+    let head : Head (a .st) W (a .height) (a .s) (a .least) (a .left) = (c .before .before .interior-right .ensures .holds (not-false (c .before .before .interior-right .result) (c .before .if1 .left))) .head in
     omega (arith, head .opens)
 
 loop-holds : (t : ℕ) → check-interior-lts.Need-loop-holds (interior-calls t) (check-interior-at t) check-interior.Post Inv μ
@@ -123,22 +125,35 @@ raw-row-requires t c κs =
     let a = c .before .before .before .before .before .before .before .args in
     let W = words (a .pool .now) in
     let rs : List Row = rowsAt (a .st) W (a .s) in
-    let head : Head (a .st) W (a .height) (a .s) (a .least) (a .left) = c .before .before .before .before .before .head-right .ensures .holds (not-false (c .before .before .before .before .before .head-right .result) (c .before .before .before .before .if1 .left)) in
+    let head : Head (a .st) W (a .height) (a .s) (a .least) (a .left) = (c .before .before .before .before .before .interior-right .ensures .holds (not-false (c .before .before .before .before .before .interior-right .result) (c .before .before .before .before .if1 .left))) .head in
     let n : c .before .before .before .raw-count .result ≡ length rs = c .before .before .before .raw-count .ensures ∙ head-count (a .st) W (a .s) (c .before .before .before .before .before .before .before .pre .1 .0 .limits .wide) (head .few) in
-    record { shape = c .before .before .before .before .before .before .before .pre .1 .0; slot = head .slot; within = omega (arith, head .few) }
+    record { shape = c .before .before .before .before .before .before .before .pre .1 .0; slot = head .there .slot; within = omega (arith, head .few) }
 
 sub-check-node : (t : ℕ) → check-interior-lts.Need-sub-check-node (interior-calls t) (check-interior-at t) check-interior.Post Inv μ
-sub-check-node t c = omega (arith, c .before .before .before .before .before .before .before .before .pre .1 .1)
+sub-check-node t c = omega (arith, c .before .before .before .before .before .before .before .before .pre .1 .1 .1)
 
 check-node-requires : (t : ℕ) → check-interior-lts.Need-check-node-requires (interior-calls t) (check-interior-at t) check-interior.Post Inv μ
-check-node-requires t c κs = (omega (arith, c .before .before .before .before .before .before .before .before .before .pre .0, c .before .before .before .before .before .before .before .before .before .pre .1 .1), c .before .before .before .before .before .before .before .before .before .pre .1 .0)
+check-node-requires t c κs =
+    let a = c .before .before .before .before .before .before .before .before .before .args in
+    let pre = c .before .before .before .before .before .before .before .before .before .pre in
+    let W = words (a .pool .now) in
+    let rs : List Row = rowsAt (a .st) W (a .s) in
+    let opened : Opened (a .st) W (a .height) (a .s) (a .least) (a .left) = c .before .before .before .before .before .before .before .interior-right .ensures .holds (not-false (c .before .before .before .before .before .before .before .interior-right .result) (c .before .before .before .before .before .before .if1 .left)) in
+    let count = c .before .before .before .before .before .raw-count in
+    let n : count .result ≡ length rs = count .ensures ∙ head-count (a .st) W (a .s) (pre .1 .0 .limits .wide) (opened .head .few) in
+    let at = c .before .before .before .loop in
+    let row : c .before .raw-row .result ≡ getD rs (at .i) blank = c .before .raw-row .ensures ∙ row-raw (a .st) W (a .s) (at .i) (omega (arith, count .ensures)) in
+    let slot : c .child-of .result ≡ childOf (getD rs (at .i) blank) = c .child-of .ensures ∙ ap childOf row in
+    let there : There (a .st) W (a .height - 1) (childOf (getD rs (at .i) blank)) =
+    all-at {P = λ (r : Row). There (a .st) W (a .height - 1) (childOf r)} rs (at .i) (omega arith) (opened .children) in
+    (omega (arith, pre .0, pre .1 .1 .1), (pre .1 .0, rw slot there))
 
 returns-2 : (t : ℕ) → check-interior-lts.Need-returns-2 (interior-calls t) (check-interior-at t) check-interior.Post Inv μ
 returns-2 t c =
     let a = c .before .before .before .before .before .before .before .before .before .before .before .before .before .args in
     let W = words (a .pool .now) in
     let rs : List Row = rowsAt (a .st) W (a .s) in
-    let head : Head (a .st) W (a .height) (a .s) (a .least) (a .left) = c .before .before .before .before .before .before .before .before .before .before .before .head-right .ensures .holds (not-false (c .before .before .before .before .before .before .before .before .before .before .before .head-right .result) (c .before .before .before .before .before .before .before .before .before .before .if1 .left)) in
+    let head : Head (a .st) W (a .height) (a .s) (a .least) (a .left) = (c .before .before .before .before .before .before .before .before .before .before .before .interior-right .ensures .holds (not-false (c .before .before .before .before .before .before .before .before .before .before .before .interior-right .result) (c .before .before .before .before .before .before .before .before .before .before .if1 .left))) .head in
     let n : c .before .before .before .before .before .before .before .before .before .raw-count .result ≡ length rs = c .before .before .before .before .before .before .before .before .before .raw-count .ensures ∙ head-count (a .st) W (a .s) (c .before .before .before .before .before .before .before .before .before .before .before .before .before .pre .1 .0 .limits .wide) (head .few) in
     let at = c .before .before .before .before .before .before .before .loop in
     let q : Last = last (at .met) (at .part .last) in
@@ -148,7 +163,7 @@ returns-2 t c =
     let slot : c .before .before .before .before .child-of .result ≡ childOf (getD rs (at .i) blank) = c .before .before .before .before .child-of .ensures ∙ ap childOf row in
     let chk : Checked (a .st) W (a .height - 1) (childOf (getD rs (at .i) blank)) 1 q (at .part .left) child =
     subst (λ (s : ℕ). Checked (a .st) W (a .height - 1) s 1 q (at .part .left) child) slot (c .before .before .before .check-node .ensures) in
-    let high : a .height ≡ suc (a .height - 1) = omega (arith, c .before .before .before .before .before .before .before .before .before .before .before .before .before .pre .1 .1) in
+    let high : a .height ≡ suc (a .height - 1) = omega (arith, c .before .before .before .before .before .before .before .before .before .before .before .before .before .pre .1 .1 .1) in
     let wrong : RowRight (getD rs (at .i) blank) child → ⊥ =
     λ k. told-no (c .before .before .row-right .ensures) (not-true (c .before .before .row-right .result) (c .before .if2 .taken)) (rw row k) in
     checked-not (a .st) W (a .height) (a .s) (a .least) (last (a .some) (a .key)) (a .left) (c .fault2 .result) (c .fault2 .ensures)
@@ -161,7 +176,7 @@ grow-requires t c κs =
     let a = c .before .before .before .before .before .before .before .before .before .before .before .before .args in
     let W = words (a .pool .now) in
     let rs : List Row = rowsAt (a .st) W (a .s) in
-    let head : Head (a .st) W (a .height) (a .s) (a .least) (a .left) = c .before .before .before .before .before .before .before .before .before .before .head-right .ensures .holds (not-false (c .before .before .before .before .before .before .before .before .before .before .head-right .result) (c .before .before .before .before .before .before .before .before .before .if1 .left)) in
+    let head : Head (a .st) W (a .height) (a .s) (a .least) (a .left) = (c .before .before .before .before .before .before .before .before .before .before .interior-right .ensures .holds (not-false (c .before .before .before .before .before .before .before .before .before .before .interior-right .result) (c .before .before .before .before .before .before .before .before .before .if1 .left))) .head in
     let n : c .before .before .before .before .before .before .before .before .raw-count .result ≡ length rs = c .before .before .before .before .before .before .before .before .raw-count .ensures ∙ head-count (a .st) W (a .s) (c .before .before .before .before .before .before .before .before .before .before .before .before .pre .1 .0 .limits .wide) (head .few) in
     let at = c .before .before .before .before .before .before .loop in
     let q : Last = last (at .met) (at .part .last) in
@@ -187,7 +202,7 @@ loop-again t c =
     let a = c .before .before .before .before .before .before .before .before .before .before .before .before .before .args in
     let W = words (a .pool .now) in
     let rs : List Row = rowsAt (a .st) W (a .s) in
-    let head : Head (a .st) W (a .height) (a .s) (a .least) (a .left) = c .before .before .before .before .before .before .before .before .before .before .before .head-right .ensures .holds (not-false (c .before .before .before .before .before .before .before .before .before .before .before .head-right .result) (c .before .before .before .before .before .before .before .before .before .before .if1 .left)) in
+    let head : Head (a .st) W (a .height) (a .s) (a .least) (a .left) = (c .before .before .before .before .before .before .before .before .before .before .before .interior-right .ensures .holds (not-false (c .before .before .before .before .before .before .before .before .before .before .before .interior-right .result) (c .before .before .before .before .before .before .before .before .before .before .if1 .left))) .head in
     let n : c .before .before .before .before .before .before .before .before .before .raw-count .result ≡ length rs = c .before .before .before .before .before .before .before .before .before .raw-count .ensures ∙ head-count (a .st) W (a .s) (c .before .before .before .before .before .before .before .before .before .before .before .before .before .pre .1 .0 .limits .wide) (head .few) in
     let at = c .before .before .before .before .before .before .before .loop in
     let q : Last = last (at .met) (at .part .last) in
@@ -207,16 +222,16 @@ tail-zero-requires t c κs =
     let a = c .before .before .before .before .before .before .before .args in
     let W = words (a .pool .now) in
     let rs : List Row = rowsAt (a .st) W (a .s) in
-    let head : Head (a .st) W (a .height) (a .s) (a .least) (a .left) = c .before .before .before .before .before .head-right .ensures .holds (not-false (c .before .before .before .before .before .head-right .result) (c .before .before .before .before .if1 .left)) in
+    let head : Head (a .st) W (a .height) (a .s) (a .least) (a .left) = (c .before .before .before .before .before .interior-right .ensures .holds (not-false (c .before .before .before .before .before .interior-right .result) (c .before .before .before .before .if1 .left))) .head in
     let n : c .before .before .before .raw-count .result ≡ length rs = c .before .before .before .raw-count .ensures ∙ head-count (a .st) W (a .s) (c .before .before .before .before .before .before .before .pre .1 .0 .limits .wide) (head .few) in
-    ((c .before .before .before .before .before .before .before .pre .1 .0, head .slot), omega (arith, head .few))
+    ((c .before .before .before .before .before .before .before .pre .1 .0, head .there .slot), omega (arith, head .few))
 
 returns-3 : (t : ℕ) → check-interior-lts.Need-returns-3 (interior-calls t) (check-interior-at t) check-interior.Post Inv μ
 returns-3 t c =
     let a = c .before .before .before .before .before .before .before .before .before .before .args in
     let W = words (a .pool .now) in
     let rs : List Row = rowsAt (a .st) W (a .s) in
-    let head : Head (a .st) W (a .height) (a .s) (a .least) (a .left) = c .before .before .before .before .before .before .before .before .head-right .ensures .holds (not-false (c .before .before .before .before .before .before .before .before .head-right .result) (c .before .before .before .before .before .before .before .if1 .left)) in
+    let head : Head (a .st) W (a .height) (a .s) (a .least) (a .left) = (c .before .before .before .before .before .before .before .before .interior-right .ensures .holds (not-false (c .before .before .before .before .before .before .before .before .interior-right .result) (c .before .before .before .before .before .before .before .if1 .left))) .head in
     let n : c .before .before .before .before .before .before .raw-count .result ≡ length rs = c .before .before .before .before .before .before .raw-count .ensures ∙ head-count (a .st) W (a .s) (c .before .before .before .before .before .before .before .before .before .before .pre .1 .0 .limits .wide) (head .few) in
     let told = tail-told (a .st) W (a .s) (c .before .before .before .before .before .before .raw-count .result) (c .before .before .tail-zero .result) (c .before .before .before .before .before .before .raw-count .ensures) (omega (arith, head .few)) (c .before .before .tail-zero .ensures) in
     checked-not (a .st) W (a .height) (a .s) (a .least) (last (a .some) (a .key)) (a .left) (c .fault3 .result) (c .fault3 .ensures)
@@ -227,9 +242,9 @@ returns-4 t c =
     let a = c .before .before .before .before .before .before .before .before .before .args in
     let W = words (a .pool .now) in
     let rs : List Row = rowsAt (a .st) W (a .s) in
-    let head : Head (a .st) W (a .height) (a .s) (a .least) (a .left) = c .before .before .before .before .before .before .before .head-right .ensures .holds (not-false (c .before .before .before .before .before .before .before .head-right .result) (c .before .before .before .before .before .before .if1 .left)) in
+    let head : Head (a .st) W (a .height) (a .s) (a .least) (a .left) = (c .before .before .before .before .before .before .before .interior-right .ensures .holds (not-false (c .before .before .before .before .before .before .before .interior-right .result) (c .before .before .before .before .before .before .if1 .left))) .head in
     let n : c .before .before .before .before .before .raw-count .result ≡ length rs = c .before .before .before .before .before .raw-count .ensures ∙ head-count (a .st) W (a .s) (c .before .before .before .before .before .before .before .before .before .pre .1 .0 .limits .wide) (head .few) in
-    let high : a .height ≡ suc (a .height - 1) = omega (arith, c .before .before .before .before .before .before .before .before .before .pre .1 .1) in
+    let high : a .height ≡ suc (a .height - 1) = omega (arith, c .before .before .before .before .before .before .before .before .before .pre .1 .1 .1) in
     let at = c .before .before .before .loop in
     let told = tail-told (a .st) W (a .s) (c .before .before .before .before .before .raw-count .result) (c .before .tail-zero .result) (c .before .before .before .before .before .raw-count .ensures) (omega (arith, head .few)) (c .before .tail-zero .ensures) in
     subst (λ (h : ℕ). Checked (a .st) W h (a .s) (a .least) (last (a .some) (a .key)) (a .left) (at .part)) (sym high)
@@ -239,7 +254,10 @@ returns-4 t c =
 -- check_node
 
 node-check-leaf-requires : (t : ℕ) → check-node-lts.Need-check-leaf-requires (node-calls t) (check-node-at t) check-node.Post
-node-check-leaf-requires t c κs = c .before .before .pre .1
+node-check-leaf-requires t c κs =
+    let a = c .before .before .args in
+    let pre = c .before .before .pre .1 in
+    (pre .0, subst (λ (h : ℕ). There (a .st) (words (a .pool .now)) h (a .s)) (c .if1 .taken) (pre .1))
 
 node-returns : (t : ℕ) → check-node-lts.Need-returns (node-calls t) (check-node-at t) check-node.Post
 node-returns t c =
@@ -248,7 +266,9 @@ node-returns t c =
     (c .check-leaf .ensures)
 
 node-check-interior-requires : (t : ℕ) → check-node-lts.Need-check-interior-requires (node-calls t) (check-node-at t) check-node.Post
-node-check-interior-requires t c κs = (omega (arith, c .before .before .pre .0), (c .before .before .pre .1, omega arith))
+node-check-interior-requires t c κs =
+    let pre = c .before .before .pre in
+    (omega (arith, pre .0), (pre .1 .0, (pre .1 .1, omega arith)))
 
 node-returns-2 : (t : ℕ) → check-node-lts.Need-returns-2 (node-calls t) (check-node-at t) check-node.Post
 node-returns-2 t c = c .check-interior .ensures

@@ -43,7 +43,7 @@ raw-count-requires c κs =
     let W = words (a .pool .now) in
     let rs : List Row = rowsAt (a .st) W (a .s) in
     let head : Head (a .st) W 0 (a .s) (a .least) (a .left) = c .before .head-right .ensures .holds (not-false (c .before .head-right .result) (c .if1 .left)) in
-    (c .before .before .before .pre, head .slot)
+    (c .before .before .before .pre .0, head .there .slot)
 
 sub-begin : tie.Need-sub-begin Inv-loop μ-loop
 sub-begin c =
@@ -66,8 +66,8 @@ raw-row-requires c κs =
     let W = words (a .pool .now) in
     let rs : List Row = rowsAt (a .st) W (a .s) in
     let head : Head (a .st) W 0 (a .s) (a .least) (a .left) = c .before .before .before .before .before .head-right .ensures .holds (not-false (c .before .before .before .before .before .head-right .result) (c .before .before .before .before .if1 .left)) in
-    let n : c .before .before .before .raw-count .result ≡ length rs = c .before .before .before .raw-count .ensures ∙ head-count (a .st) W (a .s) (c .before .before .before .before .before .before .before .pre .limits .wide) (head .few) in
-    record { shape = c .before .before .before .before .before .before .before .pre; slot = head .slot; within = omega (arith, head .few) }
+    let n : c .before .before .before .raw-count .result ≡ length rs = c .before .before .before .raw-count .ensures ∙ head-count (a .st) W (a .s) (c .before .before .before .before .before .before .before .pre .0 .limits .wide) (head .few) in
+    record { shape = c .before .before .before .before .before .before .before .pre .0; slot = head .there .slot; within = omega (arith, head .few) }
 
 returns-2 : tie.Need-returns-2 Inv-loop μ-loop
 returns-2 c =
@@ -75,7 +75,7 @@ returns-2 c =
     let W = words (a .pool .now) in
     let rs : List Row = rowsAt (a .st) W (a .s) in
     let head : Head (a .st) W 0 (a .s) (a .least) (a .left) = c .before .before .before .before .before .before .before .before .before .head-right .ensures .holds (not-false (c .before .before .before .before .before .before .before .before .before .head-right .result) (c .before .before .before .before .before .before .before .before .if1 .left)) in
-    let n : c .before .before .before .before .before .before .before .raw-count .result ≡ length rs = c .before .before .before .before .before .before .before .raw-count .ensures ∙ head-count (a .st) W (a .s) (c .before .before .before .before .before .before .before .before .before .before .before .pre .limits .wide) (head .few) in
+    let n : c .before .before .before .before .before .before .before .raw-count .result ≡ length rs = c .before .before .before .before .before .before .before .raw-count .ensures ∙ head-count (a .st) W (a .s) (c .before .before .before .before .before .before .before .before .before .before .before .pre .0 .limits .wide) (head .few) in
     let at = c .before .before .before .before .before .loop in
     let q : Last = last (at .met) (at .part .last) in
     let lt : at .i < length rs = omega arith in
@@ -92,7 +92,7 @@ grow-requires c κs =
     let W = words (a .pool .now) in
     let rs : List Row = rowsAt (a .st) W (a .s) in
     let head : Head (a .st) W 0 (a .s) (a .least) (a .left) = c .before .before .before .before .before .before .before .before .before .head-right .ensures .holds (not-false (c .before .before .before .before .before .before .before .before .before .head-right .result) (c .before .before .before .before .before .before .before .before .if1 .left)) in
-    let n : c .before .before .before .before .before .before .before .raw-count .result ≡ length rs = c .before .before .before .before .before .before .before .raw-count .ensures ∙ head-count (a .st) W (a .s) (c .before .before .before .before .before .before .before .before .before .before .before .pre .limits .wide) (head .few) in
+    let n : c .before .before .before .before .before .before .before .raw-count .result ≡ length rs = c .before .before .before .before .before .before .before .raw-count .ensures ∙ head-count (a .st) W (a .s) (c .before .before .before .before .before .before .before .before .before .before .before .pre .0 .limits .wide) (head .few) in
     let at = c .before .before .before .before .before .loop in
     let q : Last = last (at .met) (at .part .last) in
     let lt : at .i < length rs = omega arith in
@@ -100,7 +100,7 @@ grow-requires c κs =
     let told : EntryRight q (getD rs (at .i) blank) =
     subst (EntryRight q) row (c .before .before .entry-right .ensures .holds (not-false (c .before .before .entry-right .result) (c .before .if2 .left))) in
     rw (c .adds-of .ensures, row)
-    (going-addable (a .st) W zero rs (last (a .some) (a .key)) (a .left - 1) (at .i) (at .met) (at .part) (at .inv) lt (omega (arith, head .few, c .before .before .before .before .before .before .before .before .before .before .before .pre .limits .narrow))
+    (going-addable (a .st) W zero rs (last (a .some) (a .key)) (a .left - 1) (at .i) (at .met) (at .part) (at .inv) lt (omega (arith, head .few, c .before .before .before .before .before .before .before .before .before .before .before .pre .0 .limits .narrow))
     (entry-row (a .st) W (getD rs (at .i) blank) q (at .part .left) told))
 
 add-i : tie.Need-add-i Inv-loop μ-loop
@@ -115,7 +115,7 @@ loop-again c =
     let W = words (a .pool .now) in
     let rs : List Row = rowsAt (a .st) W (a .s) in
     let head : Head (a .st) W 0 (a .s) (a .least) (a .left) = c .before .before .before .before .before .before .before .before .before .before .head-right .ensures .holds (not-false (c .before .before .before .before .before .before .before .before .before .before .head-right .result) (c .before .before .before .before .before .before .before .before .before .if1 .left)) in
-    let n : c .before .before .before .before .before .before .before .before .raw-count .result ≡ length rs = c .before .before .before .before .before .before .before .before .raw-count .ensures ∙ head-count (a .st) W (a .s) (c .before .before .before .before .before .before .before .before .before .before .before .before .pre .limits .wide) (head .few) in
+    let n : c .before .before .before .before .before .before .before .before .raw-count .result ≡ length rs = c .before .before .before .before .before .before .before .before .raw-count .ensures ∙ head-count (a .st) W (a .s) (c .before .before .before .before .before .before .before .before .before .before .before .before .pre .0 .limits .wide) (head .few) in
     let at = c .before .before .before .before .before .before .loop in
     let q : Last = last (at .met) (at .part .last) in
     let lt : at .i < length rs = omega arith in
@@ -134,8 +134,8 @@ tail-zero-requires c κs =
     let W = words (a .pool .now) in
     let rs : List Row = rowsAt (a .st) W (a .s) in
     let head : Head (a .st) W 0 (a .s) (a .least) (a .left) = c .before .before .before .before .before .head-right .ensures .holds (not-false (c .before .before .before .before .before .head-right .result) (c .before .before .before .before .if1 .left)) in
-    let n : c .before .before .before .raw-count .result ≡ length rs = c .before .before .before .raw-count .ensures ∙ head-count (a .st) W (a .s) (c .before .before .before .before .before .before .before .pre .limits .wide) (head .few) in
-    ((c .before .before .before .before .before .before .before .pre, head .slot), omega (arith, head .few))
+    let n : c .before .before .before .raw-count .result ≡ length rs = c .before .before .before .raw-count .ensures ∙ head-count (a .st) W (a .s) (c .before .before .before .before .before .before .before .pre .0 .limits .wide) (head .few) in
+    ((c .before .before .before .before .before .before .before .pre .0, head .there .slot), omega (arith, head .few))
 
 returns-3 : tie.Need-returns-3 Inv-loop μ-loop
 returns-3 c =
@@ -143,7 +143,7 @@ returns-3 c =
     let W = words (a .pool .now) in
     let rs : List Row = rowsAt (a .st) W (a .s) in
     let head : Head (a .st) W 0 (a .s) (a .least) (a .left) = c .before .before .before .before .before .before .before .before .head-right .ensures .holds (not-false (c .before .before .before .before .before .before .before .before .head-right .result) (c .before .before .before .before .before .before .before .if1 .left)) in
-    let n : c .before .before .before .before .before .before .raw-count .result ≡ length rs = c .before .before .before .before .before .before .raw-count .ensures ∙ head-count (a .st) W (a .s) (c .before .before .before .before .before .before .before .before .before .before .pre .limits .wide) (head .few) in
+    let n : c .before .before .before .before .before .before .raw-count .result ≡ length rs = c .before .before .before .before .before .before .raw-count .ensures ∙ head-count (a .st) W (a .s) (c .before .before .before .before .before .before .before .before .before .before .pre .0 .limits .wide) (head .few) in
     let told = tail-told (a .st) W (a .s) (c .before .before .before .before .before .before .raw-count .result) (c .before .before .tail-zero .result) (c .before .before .before .before .before .before .raw-count .ensures) (omega (arith, head .few)) (c .before .before .tail-zero .ensures) in
     checked-not (a .st) W 0 (a .s) (a .least) (last (a .some) (a .key)) (a .left) (c .fault3 .result) (c .fault3 .ensures)
     (λ k. told-no told (not-true (c .before .before .tail-zero .result) (c .before .if3 .taken)) (right-tail (a .st) W 0 (a .s) (a .least) (last (a .some) (a .key)) (a .left) k))
@@ -154,7 +154,7 @@ returns-4 c =
     let W = words (a .pool .now) in
     let rs : List Row = rowsAt (a .st) W (a .s) in
     let head : Head (a .st) W 0 (a .s) (a .least) (a .left) = c .before .before .before .before .before .before .before .head-right .ensures .holds (not-false (c .before .before .before .before .before .before .before .head-right .result) (c .before .before .before .before .before .before .if1 .left)) in
-    let n : c .before .before .before .before .before .raw-count .result ≡ length rs = c .before .before .before .before .before .raw-count .ensures ∙ head-count (a .st) W (a .s) (c .before .before .before .before .before .before .before .before .before .pre .limits .wide) (head .few) in
+    let n : c .before .before .before .before .before .raw-count .result ≡ length rs = c .before .before .before .before .before .raw-count .ensures ∙ head-count (a .st) W (a .s) (c .before .before .before .before .before .before .before .before .before .pre .0 .limits .wide) (head .few) in
     let at = c .before .before .before .loop in
     let told = tail-told (a .st) W (a .s) (c .before .before .before .before .before .raw-count .result) (c .before .tail-zero .result) (c .before .before .before .before .before .raw-count .ensures) (omega (arith, head .few)) (c .before .tail-zero .ensures) in
     checked-end (a .st) W 0 (a .s) (a .least) (last (a .some) (a .key)) (a .left) (at .i) (at .met) (at .part) head

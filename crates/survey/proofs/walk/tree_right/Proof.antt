@@ -3,9 +3,9 @@ use native.Mathlib.Omega.{arith}
 use borrow.Author.Needs.{needs}
 use borrow.Author.Tests.{not-true, not-false}
 use Rattle.words.specs.Words.{words}
-use Rattle.model.proofs.Answers.{tells-no}
+use Rattle.model.proofs.Answers.{tells-no, told-no}
 use Rattle.survey.specs.Checked.{unmet, Checked, leastRoot}
-use Rattle.survey.proofs.Verdicts.{verdict-fault, verdict-tells, verdict-deep}
+use Rattle.survey.proofs.Verdicts.{verdict-fault, verdict-tells, verdict-deep, verdict-there}
 use Rattle.survey.proofs.walk.tree_right.Statement.{statement}
 use Rattle.survey.proofs.walk.tree_right.Tie as tie
 
@@ -16,21 +16,31 @@ returns c =
 
 returns-2 : tie.Need-returns-2
 returns-2 c =
-    let a = c .before .before .before .before .before .before .args in
-    let walk = c .before .before .check-node in
-    let chk : Checked (a .st) (words (a .pool .now)) (a .height) 0 (leastRoot (a .height)) unmet (a .used) (walk .result) =
-    rw (c .before .before .before .least-root .ensures) at (walk .ensures) in
-    tells-no (verdict-fault (a .st) (words (a .pool .now)) (a .used) (c .before .before .before .before .before .before .pre .1 .used) (a .height) (walk .result) (c .before .before .before .before .before .before .pre .1 .height) chk (not-true (walk .result .ok) (c .if2 .taken)))
+    let a = c .before .before .before .before .args in
+    tells-no (λ s. told-no (c .before .there .ensures) (not-true (c .before .there .result) (c .if2 .taken))
+    (verdict-there (a .st) (words (a .pool .now)) (a .height) (c .before .before .before .before .pre .1 .height) s))
+
+check-node-requires : tie.Need-check-node-requires
+check-node-requires c κs =
+    (c .before .before .before .before .before .pre .0, c .before .before .there .ensures .holds (not-false (c .before .before .there .result) (c .before .if2 .left)))
 
 returns-3 : tie.Need-returns-3
 returns-3 c =
-    let a = c .before .before .before .before .before .before .before .args in
+    let a = c .before .before .before .before .before .before .before .before .args in
+    let walk = c .before .before .check-node in
+    let chk : Checked (a .st) (words (a .pool .now)) (a .height) 0 (leastRoot (a .height)) unmet (a .used) (walk .result) =
+    rw (c .before .before .before .least-root .ensures) at (walk .ensures) in
+    tells-no (verdict-fault (a .st) (words (a .pool .now)) (a .used) (c .before .before .before .before .before .before .before .before .pre .1 .used) (a .height) (walk .result) (c .before .before .before .before .before .before .before .before .pre .1 .height) chk (not-true (walk .result .ok) (c .if3 .taken)))
+
+returns-4 : tie.Need-returns-4
+returns-4 c =
+    let a = c .before .before .before .before .before .before .before .before .before .args in
     let walk = c .before .before .before .check-node in
     let chk : Checked (a .st) (words (a .pool .now)) (a .height) 0 (leastRoot (a .height)) unmet (a .used) (walk .result) =
     rw (c .before .before .before .before .least-root .ensures) at (walk .ensures) in
-    verdict-tells (a .st) (words (a .pool .now)) (a .used) (c .before .before .before .before .before .before .before .pre .1 .used) (a .height) (walk .result) (c .before .before .before .before .before .before .before .pre .1 .height) chk (omega arith)
-    (not-false (walk .result .ok) (c .before .if2 .left))
+    verdict-tells (a .st) (words (a .pool .now)) (a .used) (c .before .before .before .before .before .before .before .before .before .pre .1 .used) (a .height) (walk .result) (c .before .before .before .before .before .before .before .before .before .pre .1 .height) chk (omega arith)
+    (not-false (walk .result .ok) (c .before .if3 .left))
 
 pub tree-right-spec : {M : Type 1} → statement M
 tree-right-spec =
-    tie.close (tie.spec returns (λ c κs. search needs) (λ c κs. search needs) returns-2 returns-3)
+    tie.close (tie.spec returns (λ c κs. search needs) returns-2 (λ c κs. search needs) check-node-requires returns-3 returns-4)
