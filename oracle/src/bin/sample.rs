@@ -26,31 +26,59 @@ use oracle::script::Step;
 use oracle::session::Session;
 use oracle::stand_in::StandIn;
 use oracle::walk::{self, Keys, Mood};
-use plain::{Action, Call, Expectation, Operation, Settings};
+use plain::pool::{image, length, put, word};
+use plain::tree::{Index, Node};
+use plain::{Action, Call, Entry, Expectation, Operation, Settings};
 
 fn main() {
     let args: Vec<u64> = std::env::args().skip(1).map(|a| a.parse().expect("a number")).collect();
     let (calls, seed) = (args.first().copied().unwrap_or(1000), args.get(1).copied().unwrap_or(1));
     let mut r = Random::new(seed);
-    let mut written = 0;
+    wrong_openings();
+    let mut written = deep_pool(&mut r);
     while written < calls {
         written += one_pool(&mut r, (calls - written).min(80));
         for _ in 0..6 {
-            let (n, fault) = (r.below(5), r.one_in(4));
-            let mut line = frames::random(&mut r, n, fault).line();
-            match r.below(6) {
-                0 => line.push(b'0'),
-                1 => line.extend(b"00000000"),
-                2 => line.clear(),
-                3 => {
-                    let at = r.below(line.len());
-                    line[at] = r.pick(b"0123gG z");
-                }
-                _ => {}
-            }
+            let line = some_line(&mut r);
             print(10, &listed(&line), &read(&line));
             written += 1;
         }
+    }
+}
+
+/// A frame, often a faulty one, of few entries or of about as many as there may be.
+fn some_line(r: &mut Random) -> Vec<u8> {
+    let (n, fault) = (if r.one_in(8) { r.between(31, 33) } else { r.below(5) }, r.one_in(4));
+    let mut line = frames::random(r, n, fault).line();
+    match r.below(7) {
+        0 => line.push(b'0'),
+        1 => line.extend(b"00000000"),
+        2 => line.clear(),
+        3 => {
+            let at = r.below(line.len());
+            line[at] = r.pick(b"0123gG z");
+        }
+        // a header that is neither
+        4 => line[1] = r.pick(b"23f"),
+        _ => {}
+    }
+    line
+}
+
+/// Openings whose settings are wrong by one, or whose length is.
+fn wrong_openings() {
+    let lent = length(&Settings { nodes: 8, order: 4, minimum: 2 }) as u64;
+    for [nodes, order, minimum, len] in [
+        [7, 4, 2, lent],
+        [16_385, 4, 2, lent],
+        [8, 3, 2, lent],
+        [8, 33, 2, lent],
+        [8, 4, 0, lent],
+        [8, 4, 3, lent],
+        [8, 4, 2, lent - 1],
+        [8, 4, 2, 0],
+    ] {
+        print(1, &[nodes, order, minimum, len], &[1, check(&vec![0x5a; len as usize])]);
     }
 }
 
@@ -68,30 +96,88 @@ fn print(kind: u64, arguments: &[u64], answers: &[u64]) {
     println!("{}", numbers.map(|n| n.to_string()).collect::<Vec<_>>().join(" "));
 }
 
-/// A pool from its opening on. The session is there so that nothing is written on which the third variant disagrees.
+/// A pool from its opening on, with random calls. One of its last calls damages it.
 fn one_pool(r: &mut Random, calls: u64) -> u64 {
     let order = r.pick(&[4, 4, 4, 5, 7, 8, 32]);
     let st = Settings { nodes: r.pick(&[8, 16, 16, 40]), order, minimum: r.between(1, (order + 1) / 2) };
-    let len = plain::pool::length(&st);
-    let settings = [st.nodes as u64, st.order as u64, st.minimum as u64];
-    print(1, &[settings[0], settings[1], settings[2], len as u64 + 8], &[1, check(&vec![0x5a; len + 8])]);
-    let mut s = Session::new(&StandIn, st, None).expect("agreed");
-    print(1, &[settings[0], settings[1], settings[2], len as u64], &[0, check(s.pool())]);
+    let mut pool = Played::open(st);
     let mut keys = Keys::random(r, &st);
     for turn in 0..calls {
         let mood = if turn < calls / 2 { Mood::Grow } else { Mood::Clear };
         let step = if turn + 4 == calls {
-            Step::Put { word: r.below(len / 8), value: r.below(9) as u64 }
+            Step::Put { word: r.below(length(&st) / 8), value: r.below(9) as u64 }
         } else if r.one_in(3) {
-            walk::look(r, s.index(), &mut keys)
+            walk::look(r, pool.session.index(), &mut keys)
         } else {
-            Step::Batch(walk::batch(r, &st, s.index(), &mut keys, mood))
+            Step::Batch(walk::batch(r, &st, pool.session.index(), &mut keys, mood))
         };
-        let before = s.pool().to_vec();
-        s.step(&step).expect("agreed");
-        write(&step, &before);
+        pool.play(&step);
     }
-    calls + 2
+    pool.written
+}
+
+/// A pool of eight levels, put word by word into an opened one: two leaves, each at the end of interiors that have one child.
+fn deep_pool(r: &mut Random) -> u64 {
+    let st = Settings { nodes: 16, order: 4, minimum: 2 };
+    let chain = |slot: usize, key: u64| (slot + 1..slot + 7).rev().fold(two_entries(slot, key), |below, slot| Node::interior(slot, vec![below]));
+    let root = Node::interior(0, vec![chain(1, 10), chain(8, 20)]);
+    let mut pool = Played::open_with(st, Index { root, unused: vec![15] });
+    let mut keys = Keys::Below(30);
+    // at eight levels nothing may be set, however often it is tried; a removal that joins makes room
+    for _ in 0..10 {
+        let call = walk::batch(r, &st, pool.session.index(), &mut keys, Mood::Grow);
+        if call.operation != Operation::Remove {
+            pool.play(&Step::Batch(call));
+        }
+    }
+    for _ in 0..30 {
+        pool.play(&walk::look(r, pool.session.index(), &mut keys));
+        let call = walk::batch(r, &st, pool.session.index(), &mut keys, Mood::Churn);
+        pool.play(&Step::Batch(call));
+    }
+    pool.written
+}
+
+fn two_entries(slot: usize, key: u64) -> Node {
+    Node::leaf(slot, vec![Entry { key, place: 256, size: 16 }, Entry { key: key + 1, place: 0, size: 16 }])
+}
+
+/// A pool whose calls are written as they are made. The session is there so that nothing is written on which the third variant disagrees.
+struct Played {
+    session: Session<'static>,
+    written: u64,
+}
+
+impl Played {
+    fn open(st: Settings) -> Played {
+        let len = length(&st);
+        let settings = [st.nodes as u64, st.order as u64, st.minimum as u64];
+        print(1, &[settings[0], settings[1], settings[2], len as u64 + 8], &[1, check(&vec![0x5a; len + 8])]);
+        let session = Session::new(&StandIn, st, None).expect("agreed");
+        print(1, &[settings[0], settings[1], settings[2], len as u64], &[0, check(session.pool())]);
+        Played { session, written: 2 }
+    }
+    /// Opened, and then given this index.
+    fn open_with(st: Settings, index: Index) -> Played {
+        let opened = Played::open(st);
+        let (mut pool, image) = (opened.session.pool().to_vec(), image(&st, &index));
+        let mut written = opened.written;
+        for at in 0..image.len() / 8 {
+            if word(&pool, at) != word(&image, at) {
+                let step = Step::Put { word: at, value: word(&image, at) };
+                write(&step, &pool);
+                put(&mut pool, at, word(&image, at));
+                written += 1;
+            }
+        }
+        Played { session: Session::new(&StandIn, st, Some(&index)).expect("agreed"), written }
+    }
+    fn play(&mut self, step: &Step) {
+        let before = self.session.pool().to_vec();
+        self.session.step(step).expect("agreed");
+        write(step, &before);
+        self.written += 1;
+    }
 }
 
 fn write(step: &Step, pool: &[u8]) {
@@ -125,7 +211,7 @@ fn write(step: &Step, pool: &[u8]) {
         }
         Step::Put { word, value } => {
             let mut after = pool.to_vec();
-            plain::pool::put(&mut after, *word, *value);
+            put(&mut after, *word, *value);
             print(11, &[*word as u64, *value], &[0, check(&after)]);
         }
         Step::Resize { .. } => {}
