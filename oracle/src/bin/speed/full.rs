@@ -1,0 +1,112 @@
+//! The soundness test on full pools, beside a sum of the same bytes as 64-bit words.
+use crate::clock::{nanos, readings};
+use oracle::random::Random;
+use oracle::Library;
+use plain::pool::image;
+use plain::tree::{Index, Items, Node};
+use plain::{Bound, Entry, Request, Settings};
+use std::hint::black_box;
+use std::time::Duration;
+
+/// Where the nodes of a full pool lie.
+#[derive(Clone, Copy)]
+enum Layout {
+    /// One behind another, as a walk over the tree comes to them.
+    InOrder,
+    /// Anywhere, as after many changes.
+    Scattered,
+}
+
+pub fn table(lib: &dyn Library, time: Duration) {
+    println!("| order | nodes | slots | entries | depth | pool KB | soundness test µs | sum of words µs | ratio | list of all entries µs |");
+    println!("|---|---|---|---|---|---|---|---|---|---|");
+    for order in [4, 16, 32] {
+        for nodes in [16, 64, 1024, 16_384] {
+            for layout in [Layout::InOrder, Layout::Scattered] {
+                row(lib, time, Settings { nodes, order, minimum: order / 2 }, layout);
+            }
+        }
+    }
+}
+
+/// What the test costs is what totals cost, which only reads the root's rows besides. The list is a scan of everything, less the test.
+fn row(lib: &dyn Library, time: Duration, st: Settings, layout: Layout) {
+    let index = full(&st, layout);
+    let entries = index.entries().len();
+    let pool = image(&st, &index);
+    let mut out = vec![0; 24 * entries];
+    let all = Request { start: Bound::Unbounded, end: Bound::Unbounded, down: false, least: 0 };
+    let (mut totals, mut told) = ([0; 3], [0; 3]);
+    let sum = readings(time, || nanos(|| _ = black_box(summed(black_box(&pool))))).median();
+    let test = readings(time, || nanos(|| assert_eq!(black_box(lib.totals(&pool, &mut totals)), 0))).median();
+    let scan = readings(time, || nanos(|| assert_eq!(black_box(lib.scan(&pool, &all, &mut out, &mut told)), 0))).median();
+    println!(
+        "| {} | {} | {} | {entries} | {} | {:.1} | {:.2} | {:.2} | {:.1} | {:.2} |",
+        st.order,
+        st.nodes,
+        match layout {
+            Layout::InOrder => "in order",
+            Layout::Scattered => "scattered",
+        },
+        index.depth(),
+        pool.len() as f64 / 1024.0,
+        test / 1000.0,
+        sum / 1000.0,
+        test / sum,
+        (scan - test) / 1000.0
+    );
+}
+
+fn summed(pool: &[u8]) -> u64 {
+    pool.chunks_exact(8).fold(0u64, |s, w| s.wrapping_add(u64::from_le_bytes(w.try_into().expect("eight"))))
+}
+
+/// A tree of full leaves and of interiors as full as they can be alike, as large as fits: at most a few slots stay unused. One entry in
+/// four is dead.
+fn full(st: &Settings, layout: Layout) -> Index {
+    let mut leaves = 1;
+    while nodes_over(leaves + 1, st.order) <= st.nodes {
+        leaves += 1;
+    }
+    let mut level: Vec<Node> = (0..leaves).map(|i| Node::leaf(0, (0..st.order).map(|j| entry((i * st.order + j) as u64)).collect())).collect();
+    while level.len() > 1 {
+        level = parents(level, st.order);
+    }
+    let mut root = level.remove(0);
+    let mut slots: Vec<usize> = (0..st.nodes).collect();
+    if let Layout::Scattered = layout {
+        Random::new(5).shuffle(&mut slots[1..]);
+    }
+    let mut unused = slots.split_off(root.nodes());
+    unused.sort_unstable();
+    lay(&mut root, &mut slots.into_iter());
+    Index { root, unused }
+}
+
+fn entry(i: u64) -> Entry {
+    Entry { key: 2 * i + 1, place: if i % 4 == 3 { 0 } else { 256 }, size: 16 }
+}
+
+/// How many nodes a tree with so many leaves has.
+fn nodes_over(leaves: usize, order: usize) -> usize {
+    if leaves == 1 {
+        1
+    } else {
+        leaves + nodes_over(leaves.div_ceil(order), order)
+    }
+}
+
+/// The next level above: as few nodes as hold them, filled alike.
+fn parents(level: Vec<Node>, order: usize) -> Vec<Node> {
+    let (n, above) = (level.len(), level.len().div_ceil(order));
+    let mut nodes = level.into_iter();
+    (0..above).map(|i| Node::interior(0, nodes.by_ref().take(n * (i + 1) / above - n * i / above).collect())).collect()
+}
+
+/// Puts the nodes into slots, in the order of a walk.
+fn lay(n: &mut Node, slots: &mut impl Iterator<Item = usize>) {
+    n.slot = slots.next().expect("a slot for each node");
+    if let Items::Nodes(below) = &mut n.items {
+        below.iter_mut().for_each(|c| lay(c, slots));
+    }
+}
