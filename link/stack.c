@@ -1,5 +1,6 @@
 /* How many bytes of stack the calls take, at order 4 with trees of depth 7 and 8: each call runs on a thread of its own whose stack is
  * painted first, and what is no longer painted after the call was used. Counted from the frame of the function that makes the call.
+ * Ends with 1 where a call takes more than MOST.
  *
  *     cc -O1 -pthread -Iinclude link/stack.c "$(link/archive)" -o target/stack && target/stack
  */
@@ -9,7 +10,7 @@
 #include <stdlib.h>
 #include <string.h>
 
-enum { STACK = 1 << 18, PAINT = 0xa5, NODES = 16384, ORDER = 4 };
+enum { MOST = 1 << 14, STACK = 1 << 18, PAINT = 0xa5, NODES = 16384, ORDER = 4 };
 
 static uint8_t *pool, *out, line[64 * ORDER + 2];
 static uint64_t pool_n, len, top;
@@ -84,7 +85,7 @@ static void measure(uint32_t (*f)(void)) {
 
 static void tell(const char *what, uint32_t (*f)(void)) {
     measure(f);
-    if (code)
+    if (code || used > MOST)
         exit(1);
     printf("%-11s %5zu bytes\n", what, used);
 }
@@ -99,7 +100,7 @@ int main(void) {
     size_t most = 0;
     for (measure(set); code == 0; measure(set))
         most = used > most ? used : most;
-    if (code != 6)
+    if (code != 6 || most > MOST)
         return 1;
     printf("%-11s %5zu bytes at most, depth 1 to 7\n", "set", most);
     tell("remove", take);
