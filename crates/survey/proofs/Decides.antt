@@ -19,14 +19,14 @@ use Rattle.slots.proofs.Canons.{canon-zero, canon-count}
 use Rattle.slots.proofs.Zeros.{tail-tells, slot-tells}
 use Rattle.model.specs.declared.Entry.{Entry}
 use Rattle.model.specs.declared.Settings.{Settings}
-use Rattle.model.specs.declared.Totals.{Totals}
 use Rattle.model.specs.Answer.{Tells}
 use Rattle.model.specs.Lists.{All, none, one, Ordered, nil, cons}
 use Rattle.model.specs.Tree.{Item, Tree, len, entries, slots, total, greatestKey}
 use Rattle.model.specs.Sound.{InLimits, Stocked, Whole, Sorted, Fits}
 use Rattle.model.proofs.Lists.{all-head, all-tail, all-every}
-use Rattle.tree.specs.Bridge.{childOf, treeAt, unusedOf}
-use Rattle.tree.specs.Pool.{poolLen, heightAt, settingsIn, nodesIn, Kinds, EachChild, Separates, Adds, Totalled, SoundPool}
+use Rattle.tree.specs.Bridge.{childOf, childTotals, treeAt, unusedOf}
+use Rattle.tree.specs.Pool.{poolLen, heightAt, settingsIn, nodesIn, Kinds, EachChild, Separates, Totalled, SoundPool}
+use Rattle.tree.proofs.Sums.{totals-discrete}
 use Rattle.tree.proofs.Opening.{exact-shape}
 use Rattle.survey.specs.Surveyed.{Headed}
 use Rattle.survey.specs.Spared.{Idle}
@@ -91,11 +91,6 @@ module _ (P : (h : ℕ) → Row → Tree h → Type 0) (f : (h : ℕ) (r : Row) 
   dec-each ns zero s = yes tt
   dec-each ns (suc h) s = dec-all (λ (r : Row). dec-both (f h r (treeAt ns h (childOf r))) (dec-each ns h (childOf r))) (nth ns s .rows)
 
-dec-adds : (t : Totals) (r : Row) → Dec (Adds t r)
-dec-adds t r =
-    map-dec (λ p. record { live = p .0; dead = p .1 .0; size = p .1 .1 }) (λ a. (a .live, (a .dead, a .size)))
-    (dec-both (ℕ-discrete _ (t .live)) (dec-both (ℕ-discrete _ (t .dead)) (ℕ-discrete (r .size) (t .size))))
-
 -- OF SLOTS
 
 module _ (st : Settings) (W : List ℕ) (sh : Shape st W) where
@@ -159,7 +154,7 @@ module _ (st : Settings) (W : List ℕ) (sh : Shape st W) where
       dec-separates h r c = ℕ-discrete (r .key) (greatestKey (suc h) c)
 
       dec-totalled : (h : ℕ) (r : Row) (c : Tree h) → Dec (Totalled h r c)
-      dec-totalled h r c = dec-adds (total (suc h) c) r
+      dec-totalled h r c = totals-discrete (childTotals r) (total (suc h) c)
 
   -- the tree from the root: its height, its own nodes, and how many they are
   abbrev high : ℕ

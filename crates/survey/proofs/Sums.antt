@@ -1,41 +1,20 @@
 -- Totals that the walk adds up stay far below what their fields hold. Assumes nothing.
-use mathlib.Core.Path.{_≡_, refl, sym, ap, _∙_}
+use mathlib.Core.Path.{_≡_, ap}
 use mathlib.Core.Bool.{Bool, true, false, cond}
-use mathlib.Core.List.{List, [], _∷_, map}
-use Prim.Native.Nat.{ℕ, zero, suc, _+_, _*_, _/_, _%_, _≤_, _<_}
+use Prim.Native.Nat.{ℕ, suc, _+_, _*_, _≤_, _<_}
 use native.Mathlib.Omega.{arith}
 use lib.ListN.{length}
 use Rattle.slots.specs.declared.Row.{Row}
 use Rattle.model.specs.declared.Entry.{Entry}
 use Rattle.model.specs.declared.Totals.{Totals}
-use Rattle.model.specs.Lists.{All, none, one}
-use Rattle.model.specs.Tree.{Item, Tree, entries, total, isLive, adds, plus, sumOf, noTotals}
+use Rattle.model.specs.Lists.{All}
+use Rattle.model.specs.Tree.{Tree, entries, total, isLive, adds, plus, noTotals}
 use Rattle.model.specs.Sound.{Fits}
-use Rattle.model.proofs.Trees.{listTotals, total-list, totals-count}
-use Rattle.tree.specs.Pool.{Adds}
+use Rattle.model.proofs.Trees.{total-list}
+use Rattle.tree.specs.Bridge.{childTotals}
+use Rattle.tree.specs.Sums.{Addable}
 use Rattle.tree.proofs.ReadOff.{total-count}
-use Rattle.survey.specs.Checked.{Addable}
-
--- ADDING
-
-pub zero-plus : (t : Totals) → t ≡ plus noTotals t
-zero-plus t = same (omega arith) (omega arith) (omega arith)
-  where
-    same : t .live ≡ 0 + t .live → t .dead ≡ 0 + t .dead → t .size ≡ 0 + t .size → t ≡ plus noTotals t
-    same p q r = λ j. record { live = p j; dead = q j; size = r j }
-
-pub plus-zero : (t : Totals) → plus t noTotals ≡ t
-plus-zero t = same (omega arith) (omega arith) (omega arith)
-  where
-    same : t .live + 0 ≡ t .live → t .dead + 0 ≡ t .dead → t .size + 0 ≡ t .size → plus t noTotals ≡ t
-    same p q r = λ j. record { live = p j; dead = q j; size = r j }
-
-pub plus-assoc : (a b c : Totals) → plus a (plus b c) ≡ plus (plus a b) c
-plus-assoc a b c = same (omega arith) (omega arith) (omega arith)
-  where
-    same : a .live + (b .live + c .live) ≡ a .live + b .live + c .live → a .dead + (b .dead + c .dead) ≡ a .dead + b .dead + c .dead
-        → a .size + (b .size + c .size) ≡ a .size + b .size + c .size → plus a (plus b c) ≡ plus (plus a b) c
-    same p q r = λ j. record { live = p j; dead = q j; size = r j }
+use Rattle.tree.proofs.Sums.{sizes-few}
 
 -- BOUNDS
 
@@ -67,15 +46,11 @@ entry-slight e h = by (isLive e)
     by true = record { live = omega arith; dead = omega arith; size = omega arith }
     by false = record { live = omega arith; dead = omega arith; size = omega arith }
 
-sizes-most : {es : List Entry} → All Fits es → listTotals es .size ≤ 4294967296 * length es
-sizes-most none = omega arith
-sizes-most (one f fs) = omega (arith, f .size, sizes-most fs)
-
 -- a child whose row counts its entries
-pub child-slight : (h : ℕ) (t : Tree h) (r : Row) → All Fits (entries (suc h) t) → Adds (total (suc h) t) r → Slight (total (suc h) t)
+pub child-slight : (h : ℕ) (t : Tree h) (r : Row) → All Fits (entries (suc h) t) → childTotals r ≡ total (suc h) t → Slight (total (suc h) t)
 child-slight h t r f a =
-    let live : total (suc h) t .live < 1048576 = omega (arith, a .live) in
-    let dead : total (suc h) t .dead < 1048576 = omega (arith, a .dead) in
-    let size : total (suc h) t .size ≤ 4294967296 * length (entries (suc h) t) =
-    omega (arith, sizes-most f, ap (λ (x : Totals). x .size) (total-list (suc h) t)) in
+    let live : total (suc h) t .live < 1048576 = omega (arith, ap (λ (x : Totals). x .live) a) in
+    let dead : total (suc h) t .dead < 1048576 = omega (arith, ap (λ (x : Totals). x .dead) a) in
+    let size : total (suc h) t .size ≤ length (entries (suc h) t) * 4294967296 =
+    omega (arith, sizes-few f, ap (λ (x : Totals). x .size) (total-list (suc h) t)) in
     record { live = omega arith; dead = omega arith; size = omega (arith, total-count (suc h) t) }

@@ -19,11 +19,12 @@ use Rattle.model.specs.Tree.{Item, Tree, entries, slots, total, greatestKey, su
 use Rattle.model.specs.Sound.{Whole}
 use Rattle.model.proofs.Trees.{flat, slotsIn, separator-ends}
 use Rattle.tree.specs.Bridge.{entryOf, childOf, treeAt}
-use Rattle.tree.specs.Pool.{Adds}
+use Rattle.tree.specs.Sums.{Addable}
+use Rattle.tree.proofs.Sums.{zero-plus, plus-zero, plus-assoc}
 use Rattle.survey.specs.declared.walk.Part.{Part}
-use Rattle.survey.specs.Checked.{Last, last, after, Head, Tail, Right, Checked, EntryRight, RowRight, Addable, begun, grown}
+use Rattle.survey.specs.Checked.{Last, last, after, Head, Tail, Right, Checked, EntryRight, RowRight, begun, grown}
 use Rattle.survey.proofs.Ascents.{after-append, after-ends}
-use Rattle.survey.proofs.Sums.{Small, Slight, zero-plus, plus-zero, plus-assoc, small-none, small-more, small-addable, entry-slight, child-slight}
+use Rattle.survey.proofs.Sums.{Small, Slight, small-none, small-more, small-addable, entry-slight, child-slight}
 use Rattle.survey.proofs.Rows.{itemAt, itemsAt, RightRow, RightRows, rows-none, rows-cons, rows-head, rows-tail, right-rows, rows-right}
 
 -- WHAT A RIGHT ROW ADDS
@@ -74,7 +75,7 @@ module _ (st : Settings) (W : List ℕ) (h : ℕ) (rs : List Row) where
         there = λ k. k;
         back = λ k. k;
         end = refl;
-        totals = zero-plus (sums ns h rs);
+        totals = sym (zero-plus (sums ns h rs));
         rest = refl;
         small = small-none;
       }
@@ -155,12 +156,12 @@ module _ (st : Settings) (W : List ℕ) (h : ℕ) (r : Row) (p : Last) (left : �
   pub child-row : RowRight r child → RightRow st W (suc h) r p left
   child-row t =
       let right : Right st W h (childOf r) 1 p left = g .ok .holds (t .ok) in
-      (right, (t .key ∙ child-key right (t .ok), subst (λ (x : Totals). Adds x r) (g .totals (t .ok)) (t .totals)))
+      (right, (t .key ∙ child-key right (t .ok), t .totals ∙ g .totals (t .ok)))
 
   pub row-child : RightRow st W (suc h) r p left → RowRight r child
   row-child t =
       let e : child .ok ≡ true = g .ok .told (t .0) in
-      record { ok = e; key = t .1 .0 ∙ sym (child-key (t .0) e); totals = subst (λ (x : Totals). Adds x r) (sym (g .totals e)) (t .1 .1) }
+      record { ok = e; key = t .1 .0 ∙ sym (child-key (t .0) e); totals = t .1 .1 ∙ sym (g .totals e) }
 
 -- WHAT THE WALK ANSWERS WITH
 

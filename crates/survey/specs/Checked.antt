@@ -14,8 +14,8 @@ use Rattle.model.specs.Answer.{Tells}
 use Rattle.model.specs.Lists.{All}
 use Rattle.model.specs.Tree.{len, entries, slots, slotsOf, total, noTotals, plus}
 use Rattle.model.specs.Sound.{Whole, Sorted, Fits}
-use Rattle.tree.specs.Bridge.{kindFor, childOf, entryOf, treeAt, unusedOf}
-use Rattle.tree.specs.Pool.{heightAt, indexIn, Kinds, EachChild, Separates, Totalled, Adds, SoundNodes}
+use Rattle.tree.specs.Bridge.{kindFor, childOf, childTotals, entryOf, treeAt, unusedOf}
+use Rattle.tree.specs.Pool.{heightAt, indexIn, Kinds, EachChild, Separates, Totalled, SoundNodes}
 use Rattle.survey.specs.declared.walk.Part.{Part}
 
 -- THE LAST KEY that a walk has met
@@ -103,7 +103,7 @@ pub record EntryRight (p : Last) (r : Row) : Type 0 where
 pub record RowRight (r : Row) (child : Part) : Type 0 where
   pub ok : child .ok ≡ true
   pub key : r .key ≡ child .last
-  pub totals : Adds (child .totals) r
+  pub totals : childTotals r ≡ child .totals
 
 -- at the start of a node's rows, and after another row
 abbrev pub begun : ℕ → ℕ → Part
@@ -111,12 +111,6 @@ begun key left = record { ok = true; last = key; totals = noTotals; left = left 
 
 abbrev pub grown : Totals → ℕ → Totals → ℕ → Part
 grown sum key t left = record { ok = true; last = key; totals = plus sum t; left = left }
-
--- totals whose sums fit their fields
-pub record Addable (a b : Totals) : Type 0 where
-  pub live : a .live + b .live < 4294967296
-  pub dead : a .dead + b .dead < 4294967296
-  pub size : a .size + b .size < 18446744073709551616
 
 -- THE ROOT
 

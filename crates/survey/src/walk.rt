@@ -11,10 +11,9 @@ ghost use Rattle.words.specs.Words.{words};
 ghost use Rattle.slots.specs.Slots.{Shape};
 ghost use Rattle.slots.specs.Nodes.{nodes, rowsAt};
 ghost use Rattle.model.specs.Answer.{Tells};
-ghost use Rattle.model.specs.Tree.{adds};
-ghost use Rattle.tree.specs.Bridge.{childOf, entryOf};
 ghost use Rattle.tree.specs.Pool.{firstChild, heightAt};
-ghost use Rattle.survey.specs.Checked.{last, There, EachThere, Head, Opened, Checked, begun, grown, EntryRight, RowRight, Addable, leastRoot, Known, SoundTree};
+ghost use Rattle.tree.specs.Sums.{Addable};
+ghost use Rattle.survey.specs.Checked.{last, There, EachThere, Head, Opened, Checked, begun, grown, EntryRight, RowRight, leastRoot, Known, SoundTree};
 use model::Settings;
 use model::Totals;
 use slots::Row;
@@ -56,7 +55,7 @@ fn first_child(pool: &[u8], st: Settings, s: usize) -> usize
     if slots::raw_count(pool, st, s) == 0 {
         return 0;
     }
-    child_of(slots::raw_row(pool, st, s, 0))
+    tree::child_of(slots::raw_row(pool, st, s, 0))
 }
 
 // Whether the tree is that of a sound pool, where `used` nodes are in use.
@@ -130,7 +129,7 @@ fn check_interior(
             pool,
             st,
             height - 1,
-            child_of(row),
+            tree::child_of(row),
             1,
             met,
             part.last,
@@ -175,7 +174,7 @@ fn check_leaf(
         if !entry_right(row, met, part.last) {
             return fault();
         }
-        part = grow(part, row.key, adds_of(row), part.left);
+        part = grow(part, row.key, tree::entry_totals(row), part.left);
         met = true;
         i += 1;
     }
@@ -215,7 +214,7 @@ fn children_there(pool: &[u8], st: Settings, height: usize, s: usize) -> bool
     let mut i = 0;
     while i < n {
         let row = slots::raw_row(pool, st, s, i);
-        if !there(pool, st, height, child_of(row)) {
+        if !there(pool, st, height, tree::child_of(row)) {
             return false;
         }
         i += 1;
@@ -273,13 +272,7 @@ fn row_right(row: Row, child: Part) -> bool
     if row.key != child.last {
         return false;
     }
-    if row.body / 0x10_0000 % 0x10_0000 != child.totals.live as u64 {
-        return false;
-    }
-    if row.body % 0x10_0000 != child.totals.dead as u64 {
-        return false;
-    }
-    row.size == child.totals.size
+    tree::same_totals(tree::child_totals(row), child.totals)
 }
 
 // A walk at the start of a node's rows.
@@ -289,11 +282,7 @@ fn begin(key: u64, left: usize) -> Part
     Part {
         ok: true,
         last: key,
-        totals: Totals {
-            live: 0,
-            dead: 0,
-            size: 0,
-        },
+        totals: tree::no_totals(),
         left,
     }
 }
@@ -303,15 +292,10 @@ fn grow(part: Part, key: u64, t: Totals, left: usize) -> Part
     requires { ⌜ Addable (part .totals) t ⌝ }
     ensures { λ r. ⌜ r ≡ grown (part .totals) key t left ⌝ }
 {
-    let sum = Totals {
-        live: part.totals.live + t.live,
-        dead: part.totals.dead + t.dead,
-        size: part.totals.size + t.size,
-    };
     Part {
         ok: true,
         last: key,
-        totals: sum,
+        totals: tree::plus_totals(part.totals, t),
         left,
     }
 }
@@ -323,38 +307,9 @@ fn fault() -> Part
     Part {
         ok: false,
         last: 0,
-        totals: Totals {
-            live: 0,
-            dead: 0,
-            size: 0,
-        },
+        totals: tree::no_totals(),
         left: 0,
     }
-}
-
-// What a leaf's row adds to the totals.
-fn adds_of(row: Row) -> Totals
-    ensures { λ r. ⌜ r ≡ adds (entryOf row) ⌝ }
-{
-    if row.body == 0 {
-        return Totals {
-            live: 0,
-            dead: 1,
-            size: row.size,
-        };
-    }
-    Totals {
-        live: 1,
-        dead: 0,
-        size: row.size,
-    }
-}
-
-// The slot that an interior's row names.
-fn child_of(row: Row) -> usize
-    ensures { λ r. ⌜ r ≡ childOf row ⌝ }
-{
-    (row.body / 0x100_0000_0000) as usize
 }
 
 // How many rows a root of height `height` has at least.

@@ -20,6 +20,7 @@ use Rattle.model.proofs.Trees.{flat, slotsIn, Ends, separator-ends, listTotals,
 use Rattle.tree.specs.Bridge.{kindFor, rowFor, nodeFor, Cell, cells, cellsOf}
 use Rattle.tree.specs.Pool.{nodesOf, wordsOf}
 use Rattle.tree.proofs.Counts.{all-of}
+use Rattle.tree.proofs.Sums.{sizes-few}
 use Rattle.tree.proofs.Few.{root-few, entries-most, slots-low}
 use Rattle.tree.proofs.NodesOf.{nodesOf-have}
 
@@ -64,10 +65,6 @@ word-at (one h hs) zero = h
 word-at (one h hs) (suc i) = word-at hs i
 
 -- ROWS OF A SOUND TREE
-
-sizes-few : {es : List Entry} → All Fits es → listTotals es .size ≤ length es * 4294967296
-sizes-few none = omega arith
-sizes-few (one {x = e} f fs) = omega (arith, f .size, sizes-few fs)
 
 -- an item of a sound index: whole, with few entries, each of which fits, and low slots
 pub record Part (st : Settings) (h : ℕ) (i : Item h) : Type 0 where

@@ -1,20 +1,20 @@
 -- Nodes that hold a sound index are sound nodes, and the index that is read off them is that index. Assumes nothing.
 use mathlib.Core.Path.{_≡_, refl, sym, ap, _∙_, subst}
 use mathlib.Core.List.{List, [], _∷_, map}
-use Prim.Native.Nat.{ℕ, zero, suc, _+_, _*_, _/_, _%_, _≤_, _<_}
+use Prim.Native.Nat.{ℕ, zero, suc, _≤_, _<_}
 use native.Mathlib.Omega.{arith}
 use lib.ListN.{length}
 use Rattle.slots.specs.declared.Row.{Row}
 use Rattle.slots.specs.Nodes as S
 use Rattle.model.specs.declared.Settings.{Settings}
-use Rattle.model.specs.declared.Totals.{Totals}
 use Rattle.model.specs.Lists.{All, one}
-use Rattle.model.specs.Tree.{Tree, Index, len, depth, entries, entriesOf, slotsOf, total}
+use Rattle.model.specs.Tree.{Tree, Index, len, depth, entriesOf, slotsOf}
 use Rattle.model.specs.Sound.{Whole, Rooted, Sorted, Fits, Once, Sound}
 use Rattle.model.proofs.Lists.{all-left, all-head, all-tail}
 use Rattle.tree.specs.Bridge.{childOf, rowFor, cells, cellsOf, Stands, Holds, treeAt, unusedOf}
 use Rattle.tree.specs.Pool.{firstChild, heightAt, indexIn, Kinds, EachChild, Separates, Totalled, SoundNodes}
-use Rattle.tree.proofs.ReadOff.{Light, Lights, light-first, total-count, child-slot, held-tree, rows-have}
+use Rattle.tree.proofs.ReadOff.{Light, Lights, light-first, child-slot, held-tree, rows-have}
+use Rattle.tree.proofs.Sums.{child-total}
 use Rattle.tree.proofs.Few.{entries-most}
 
 -- KINDS
@@ -43,18 +43,8 @@ module _ (P : (h : ℕ) → Row → Tree h → Type 0) (p : (h : ℕ) (c : Tree 
 own-separator : (h : ℕ) (c : Tree h) → Light h c → Separates h (rowFor (suc h) c) c
 own-separator h c few = refl
 
--- the middle part of a child's word
-middle : (slot live dead : ℕ) → live < 1048576 → dead < 1048576 → (slot * 1099511627776 + live * 1048576 + dead) / 1048576 % 1048576 ≡ live
-middle slot live dead l d =
-    let high : (slot * 1099511627776 + live * 1048576 + dead) / 1048576 ≡ slot * 1048576 + live = omega arith in
-    let low : (slot * 1048576 + live) % 1048576 ≡ live = omega arith in
-    ap (λ (n : ℕ). n % 1048576) high ∙ low
-
 own-totals : (h : ℕ) (c : Tree h) → Light h c → Totalled h (rowFor (suc h) c) c
-own-totals h c few =
-    let t : Totals = total (suc h) c in
-    let both : total (suc h) c .live + total (suc h) c .dead ≡ length (entries (suc h) c) = total-count (suc h) c in
-    record { live = middle (c .slot) (t .live) (t .dead) (omega arith) (omega arith); dead = omega arith; size = refl }
+own-totals h c few = child-total h c few
 
 -- THE HEIGHT is found down the left edge
 

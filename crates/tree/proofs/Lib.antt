@@ -1,9 +1,11 @@
--- The laws of specs/. `Borrowed` has what belongs to the crates below; `Pools` ends in what this crate is for: sound pools and sound indexes are
+-- The laws of specs/. `Rows` and `Sums` are of a row's words and what they add up to; `Pools` ends in what this crate is for: sound pools and sound indexes are
 -- one and the same.
 pub mod Counts
 pub mod Cells
 pub mod Unused
+pub mod Rows
 pub mod ReadOff
+pub mod Sums
 pub mod Few
 pub mod SoundHolds
 pub mod HoldsSound

@@ -10,10 +10,11 @@ use Rattle.slots.specs.Nodes as S
 use Rattle.model.specs.declared.Entry.{Entry}
 use Rattle.model.specs.declared.Totals.{Totals}
 use Rattle.model.specs.Lists.{All, none, one}
-use Rattle.model.specs.Tree.{Item, Tree, entries, total}
+use Rattle.model.specs.Tree.{Item, Tree, entries, greatestKey, total}
 use Rattle.model.proofs.Lists.{all-left, all-right, all-head, all-tail}
 use Rattle.model.proofs.Trees.{flat, listTotals, total-list, totals-count}
 use Rattle.tree.specs.Bridge.{entryOf, entryRow, childOf, rowFor, cells, cellsOf, Stands, Holds, treeAt}
+use Rattle.tree.proofs.Rows.{slot-back}
 
 -- LIGHT TREES: with fewer entries than a row can count
 
@@ -37,7 +38,8 @@ total-count h i =
 
 -- so the slot in a child's row can be read again
 pub child-slot : (h : ℕ) (n : Tree h) → Light h n → childOf (rowFor (suc h) n) ≡ n .slot
-child-slot h n few = omega (arith, total-count (suc h) n)
+child-slot h n few =
+    slot-back (greatestKey (suc h) n) (n .slot) (total (suc h) n) (omega (arith, total-count (suc h) n)) (omega (arith, total-count (suc h) n))
 
 -- WHAT IS HELD IS READ
 

@@ -1,18 +1,18 @@
 -- Sound nodes hold the tree that is read off them: stored separators, slots and totals make each row the row of its child. Assumes nothing.
-use mathlib.Core.Path.{_≡_, refl, sym, ap}
+use mathlib.Core.Path.{_≡_, refl, sym, ap, _∙_}
 use mathlib.Core.List.{List, [], _∷_, map}
-use Prim.Native.Nat.{ℕ, zero, suc, _+_, _*_}
-use native.Mathlib.Omega.{arith}
+use Prim.Native.Nat.{ℕ, zero, suc}
 use Rattle.slots.specs.declared.Row.{Row}
 use Rattle.slots.specs.Nodes.{nth}
 use Rattle.slots.specs.Nodes as S
 use Rattle.model.specs.declared.Entry.{Entry}
 use Rattle.model.specs.declared.Settings.{Settings}
 use Rattle.model.specs.Lists.{All, none, one}
-use Rattle.model.specs.Tree.{Tree, greatestKey, total}
+use Rattle.model.specs.Tree.{Tree, total}
 use Rattle.model.proofs.Lists.{all-append}
-use Rattle.tree.specs.Bridge.{entryRow, entryOf, childOf, rowFor, nodeFor, Cell, cellsOf, Stands, Holds, treeAt}
+use Rattle.tree.specs.Bridge.{entryRow, entryOf, childRow, childOf, rowFor, nodeFor, Cell, cellsOf, Stands, Holds, treeAt}
 use Rattle.tree.specs.Pool.{indexIn, Kinds, EachChild, Separates, Totalled, SoundNodes}
+use Rattle.tree.proofs.Rows.{row-back}
 
 -- ROWS
 
@@ -27,11 +27,11 @@ rows-again (r ∷ rs) = ap (λ (l : List Row). r ∷ l) (rows-again rs)
 -- a row with the right separator and totals is the row of the child that it names
 row-again : (ns : List S.Node) (h : ℕ) (r : Row) → Separates h r (treeAt ns h (childOf r)) → Totalled h r (treeAt ns h (childOf r)) → rowFor (suc h) (treeAt ns h (childOf r)) ≡ r
 row-again ns h r k t =
-    let key : greatestKey (suc h) (treeAt ns h (childOf r)) ≡ r .key = sym k in
-    let body : treeAt ns h (childOf r) .slot * 1099511627776 + total (suc h) (treeAt ns h (childOf r)) .live * 1048576 + total (suc h) (treeAt ns h (childOf r)) .dead ≡ r .body =
-    omega (arith, slot-read ns h (childOf r), t .live, t .dead) in
-    let size : total (suc h) (treeAt ns h (childOf r)) .size ≡ r .size = sym (t .size) in
-    λ j. record { key = key j; body = body j; size = size j }
+    let child : Tree h = treeAt ns h (childOf r) in
+    ap (λ (key : ℕ). childRow key (child .slot) (total (suc h) child)) (sym k)
+    ∙ ap (λ (slot : ℕ). childRow (r .key) slot (total (suc h) child)) (slot-read ns h (childOf r))
+    ∙ ap (childRow (r .key) (childOf r)) (sym t)
+    ∙ row-back r
 
 -- CELLS
 

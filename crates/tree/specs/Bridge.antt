@@ -1,5 +1,5 @@
 -- A model tree in a pool: which node stands in which slot, the tree that is read off the nodes, and nodes that hold an index. Assumes nothing.
-use Prim.Native.Nat.{ℕ, zero, suc, _+_, _*_, _/_, _≤_}
+use Prim.Native.Nat.{ℕ, zero, suc, _+_, _*_, _/_, _%_, _≤_}
 use mathlib.Core.Path.{_≡_}
 use mathlib.Core.Logic.{_≢_}
 use mathlib.Core.Bool.{cond}
@@ -11,7 +11,7 @@ use Rattle.slots.specs.Nodes as S
 use Rattle.model.specs.declared.Totals.{Totals}
 use Rattle.model.specs.declared.Entry.{Entry}
 use Rattle.model.specs.Lists.{concat, times, All}
-use Rattle.model.specs.Tree.{Item, Tree, Index, greatestKey, total, slots}
+use Rattle.model.specs.Tree.{Item, Tree, Index, greatestKey, adds, total, slots}
 
 -- ROWS AND NODES
 
@@ -35,9 +35,17 @@ abbrev pub rowFor : (h : ℕ) → Item h → Row
 rowFor zero e = entryRow e
 rowFor (suc h) n = childRow (greatestKey (suc h) n) (n .slot) (total (suc h) n)
 
--- the slot that an interior's row names
+-- read again from an interior's row: the slot that it names, and the totals that it stores
 abbrev pub childOf : Row → ℕ
 childOf r = r .body / 1099511627776
+
+abbrev pub childTotals : Row → Totals
+childTotals r = record { live = r .body / 1048576 % 1048576; dead = r .body % 1048576; size = r .size }
+
+-- what a row of a node of height h adds to the node's totals
+abbrev pub rowTotals : ℕ → Row → Totals
+rowTotals zero r = adds (entryOf r)
+rowTotals (suc h) r = childTotals r
 
 -- the node of a tree's root
 abbrev pub nodeFor : (h : ℕ) → Tree h → S.Node

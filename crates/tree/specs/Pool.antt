@@ -1,5 +1,5 @@
 -- The image of an index in a pool's bytes, the index that a pool's bytes hold, and what a sound pool is. Assumes nothing.
-use Prim.Native.Nat.{ℕ, zero, suc, _+_, _*_, _/_, _%_, _≤_}
+use Prim.Native.Nat.{ℕ, zero, suc, _+_, _*_, _≤_}
 use mathlib.Core.Path.{_≡_}
 use mathlib.Core.Bool.{cond}
 use mathlib.Core.List.{List, [], _∷_, _++_, map}
@@ -13,11 +13,10 @@ use Rattle.slots.specs.Nodes.{nodes, nth, unused, Canon}
 use Rattle.slots.specs.Nodes as S
 use Rattle.slots.specs.Image.{image}
 use Rattle.model.specs.declared.Settings.{Settings}
-use Rattle.model.specs.declared.Totals.{Totals}
 use Rattle.model.specs.Lists.{upFrom, All}
 use Rattle.model.specs.Tree.{Tree, Index, depth, entriesOf, slotsOf, greatestKey, total}
 use Rattle.model.specs.Sound.{InLimits, Whole, Rooted, Sorted, Fits, Once}
-use Rattle.tree.specs.Bridge.{Cell, cells, childOf, treeAt, unusedOf}
+use Rattle.tree.specs.Bridge.{Cell, cells, childOf, childTotals, treeAt, unusedOf}
 
 -- THE EXACT LENGTH of a pool, in bytes
 abbrev pub poolLen : Settings → ℕ
@@ -79,14 +78,8 @@ EachChild P ns (suc h) s = All (λ r. P h r (treeAt ns h (childOf r)) × EachChi
 abbrev pub Separates : (h : ℕ) → Row → Tree h → Type 0
 Separates h r c = r .key ≡ greatestKey (suc h) c
 
--- the totals that an interior row stores
-pub record Adds (t : Totals) (r : Row) : Type 0 where
-  pub live : r .body / 1048576 % 1048576 ≡ t .live
-  pub dead : r .body % 1048576 ≡ t .dead
-  pub size : r .size ≡ t .size
-
 abbrev pub Totalled : (h : ℕ) → Row → Tree h → Type 0
-Totalled h r c = Adds (total (suc h) c) r
+Totalled h r c = childTotals r ≡ total (suc h) c
 
 -- a slot has zeros past its rows, and nothing but zeros if it is unused
 pub record Zeros (st : Settings) (W : List ℕ) (s : ℕ) : Type 0 where

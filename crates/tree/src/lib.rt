@@ -1,4 +1,4 @@
-// The bridge between a pool's nodes and the trees of the model, and the opening of a pool.
+// The bridge between a pool's nodes and the trees of the model: what a row means, the kind of a node, and the opening of a pool.
 ghost use mathlib.Core.Path.{_≡_};
 ghost use Prim.Native.Nat.{_≤_};
 ghost use Rattle.model.specs.Answer.{Tells};
@@ -6,7 +6,19 @@ ghost use Rattle.model.specs.Sound.{InLimits};
 ghost use Rattle.tree.specs.Bridge.{kindFor};
 ghost use Rattle.tree.specs.Pool.{poolLen};
 ghost use Rattle.tree.specs.Opening.{Opened};
+
+mod row; // what the words of a row mean
+
 use model::Settings;
+pub use row::child_of;
+pub use row::child_row;
+pub use row::child_totals;
+pub use row::entry_totals;
+pub use row::no_totals;
+pub use row::plus_totals;
+pub use row::row_totals;
+pub use row::same_totals;
+pub use row::stats;
 
 // The kind of a node whose height is `height`: 1 for a leaf, 2 for an interior.
 pub fn kind_for(height: usize) -> u64

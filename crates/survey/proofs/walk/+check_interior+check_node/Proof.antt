@@ -31,7 +31,7 @@ use Rattle.slots.proofs.raw_row.Reads as raw-row-reads
 use Rattle.slots.proofs.tail_zero.Reads as tail-zero-reads
 use Rattle.survey.proofs.walk.begin.Reads as begin-reads
 use Rattle.survey.proofs.walk.check_leaf.Reads as check-leaf-reads
-use Rattle.survey.proofs.walk.child_of.Reads as child-of-reads
+use Rattle.tree.proofs.child_of.Reads as child-of-reads
 use Rattle.survey.proofs.walk.fault.Reads as fault-reads
 use Rattle.survey.proofs.walk.grow.Reads as grow-reads
 use Rattle.survey.proofs.walk.interior_right.Reads as interior-right-reads

@@ -99,7 +99,7 @@ grow-requires c κs =
     let row : c .before .before .before .raw-row .result ≡ getD rs (at .i) blank = c .before .before .before .raw-row .ensures ∙ row-raw (a .st) W (a .s) (at .i) (omega (arith, c .before .before .before .before .before .before .before .raw-count .ensures)) in
     let told : EntryRight q (getD rs (at .i) blank) =
     subst (EntryRight q) row (c .before .before .entry-right .ensures .holds (not-false (c .before .before .entry-right .result) (c .before .if2 .left))) in
-    rw (c .adds-of .ensures, row)
+    rw (c .entry-totals .ensures, row)
     (going-addable (a .st) W zero rs (last (a .some) (a .key)) (a .left - 1) (at .i) (at .met) (at .part) (at .inv) lt (omega (arith, head .few, c .before .before .before .before .before .before .before .before .before .before .before .pre .0 .limits .narrow))
     (entry-row (a .st) W (getD rs (at .i) blank) q (at .part .left) told))
 
@@ -123,7 +123,7 @@ loop-again c =
     let told : EntryRight q (getD rs (at .i) blank) =
     subst (EntryRight q) row (c .before .before .before .entry-right .ensures .holds (not-false (c .before .before .before .entry-right .result) (c .before .before .if2 .left))) in
     let grew : c .grow .result ≡ grown (at .part .totals) (getD rs (at .i) blank .key) (adds (entryOf (getD rs (at .i) blank))) (at .part .left) =
-    c .grow .ensures ∙ ap (λ (t : Totals). grown (at .part .totals) (c .before .before .before .before .raw-row .result .key) t (at .part .left)) (c .before .adds-of .ensures)
+    c .grow .ensures ∙ ap (λ (t : Totals). grown (at .part .totals) (c .before .before .before .before .raw-row .result .key) t (at .part .left)) (c .before .entry-totals .ensures)
     ∙ ap (λ (r : Row). grown (at .part .totals) (r .key) (adds (entryOf r)) (at .part .left)) row in
     rw grew (going-on (a .st) W zero rs (last (a .some) (a .key)) (a .left - 1) (at .i) (at .met) (at .part) (at .inv) lt (at .part .left)
     (entry-row (a .st) W (getD rs (at .i) blank) q (at .part .left) told) (omega arith))

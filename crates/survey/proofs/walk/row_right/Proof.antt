@@ -1,7 +1,7 @@
 -- `row_right` meets its contract. Assumes nothing.
-use mathlib.Core.Path.{_≡_, refl, sym, _∙_}
+use mathlib.Core.Path.{sym, _∙_}
 use mathlib.Core.Bool.{true≢false}
-use borrow.Author.Tests.{not-true, not-false, eqb-true, eq-eqb}
+use borrow.Author.Tests.{not-true, not-false}
 use borrow.Author.Needs.{needs}
 use Rattle.model.proofs.Answers.{tells-no}
 use Rattle.survey.proofs.walk.row_right.Statement.{statement}
@@ -14,23 +14,18 @@ returns-2 : tie.Need-returns-2
 returns-2 c = tells-no (λ g. c .if2 .taken (g .key))
 
 returns-3 : tie.Need-returns-3
-returns-3 c = tells-no (λ g. c .if3 .taken (g .totals .live))
-
-returns-4 : tie.Need-returns-4
-returns-4 c = tells-no (λ g. c .if4 .taken (g .totals .dead))
-
-returns-5 : tie.Need-returns-5
-returns-5 c =
-    let a = c .before .before .before .before .before .before .before .before .before .before .before .before .before .args in
+returns-3 c =
+    let a = c .before .before .before .before .before .before .before .args in
+    let stored = c .before .child-totals .ensures in
     record {
       holds = λ e. record {
-        ok = not-false (a .child .ok) (c .before .before .before .before .before .before .before .before .before .before .before .if1 .left);
-        key = c .before .before .before .before .before .before .before .before .if2 .left;
-        totals = record { live = c .before .before .before .before .before .if3 .left; dead = c .before .before .if4 .left; size = eqb-true (a .row .size) (a .child .totals .size) e };
+        ok = not-false (a .child .ok) (c .before .before .before .before .before .if1 .left);
+        key = c .before .before .if2 .left;
+        totals = sym stored ∙ c .same-totals .ensures .holds e;
       };
-      told = λ g. eq-eqb (a .row .size) (a .child .totals .size) (g .totals .size);
+      told = λ g. c .same-totals .ensures .told (stored ∙ g .totals);
     }
 
 pub row-right-spec : {M : Type 1} → statement M
 row-right-spec =
-    tie.close (tie.spec returns returns-2 (λ c. search needs) returns-3 (λ c. search needs) returns-4 returns-5)
+    tie.close (tie.spec returns returns-2 (λ c κs. search needs) (λ c κs. search needs) returns-3)
