@@ -1,6 +1,5 @@
--- The laws of specs/. `RowSums` is for the totals; `Outputs` for all that is listed; `Children`, `Visits` and `Rounds` for the scan; `Descents` for
+-- The laws of specs/. `Outputs` is for all that is listed; `Children`, `Visits` and `Rounds` for the scan; `Descents` for
 -- multi-get; `Sounds` for the calls, from a sound pool.
-pub mod RowSums
 pub mod Outputs
 pub mod Children
 pub mod Visits

@@ -7,28 +7,30 @@ use Prim.Native.Nat.{ℕ, zero, suc, _/_, _≤_, _<_}
 use native.Mathlib.Omega.{arith}
 use lib.ListN.{length, length-append}
 use Rattle.words.specs.Words.{words}
-use Rattle.slots.specs.Nodes.{nodes, nth}
+use Rattle.slots.specs.Nodes.{nodes, nth, rowsAt}
+use Rattle.slots.specs.Nodes as S
 use Rattle.model.specs.declared.Entry.{Entry}
 use Rattle.model.specs.declared.Settings.{Settings}
 use Rattle.model.specs.declared.Direction.{Direction}
 use Rattle.model.specs.declared.Direction.the-variants.{Up, Down}
 use Rattle.model.specs.Lists.{concat}
-use Rattle.model.specs.Tree.{Tree, len, entries, entriesOf, slots, greatestKey, total, totalsOf}
+use Rattle.model.specs.Tree.{Tree, len, entries, entriesOf, slots, greatestKey, totalsOf}
 use Rattle.model.specs.Look.{Request, listing, getAll, found, ends, untilEnd, reached, entered, openings, dueIn}
 use Rattle.model.specs.Look as M
 use Rattle.model.specs.Sound.{Rooted, Sound}
 use Rattle.model.proofs.Lists.{by-test, all-head}
 use Rattle.model.proofs.Trees.{slotsIn}
 use Rattle.model.proofs.Scans.{openings-law}
-use Rattle.tree.specs.Bridge.{treeAt}
+use Rattle.tree.specs.Bridge.{nodeFor, treeAt}
+use Rattle.tree.specs.Sums.{sumRows, Sums, Weighs}
 use Rattle.tree.specs.Pool.{settingsIn, nodesIn, indexOf}
+use Rattle.tree.proofs.Sums.{rows-total, sums-fit}
 use Rattle.tree.proofs.Few.{used-few, entries-most}
 use Rattle.tree.proofs.Pools.{sound-held, sound-holds-index, sound-index}
 use Rattle.tree.proofs.SoundHolds.{slot-read}
 use Rattle.look.specs.declared.Listed.{Listed}
 use Rattle.look.specs.declared.Scanned.{Scanned}
 use Rattle.look.specs.declared.query.Query.{Query}
-use Rattle.look.specs.Stats.{Right}
 use Rattle.look.specs.Output.{roomIn, page, enlistAll, freshPage}
 use Rattle.look.specs.Walk.{requestOf, Walk, walkAt, visitAll, openingsOf, ToScan}
 use Rattle.look.specs.Lookup.{Grown}
@@ -87,19 +89,26 @@ module _ (l : List ℕ) (st : Settings) (height : ℕ) (k : InPool l st height) 
   sound : Sound (settingsIn l) (indexOf l)
   sound = sound-index l (k .sound)
 
-  pub pool-right : Right st (words l) height 0
-  pool-right =
-      own (λ s h. Right s (words l) h 0)
+  -- the root's rows are those of its children
+  root-node : nth (nodesIn l) 0 ≡ nodeFor (indexOf l .height) (indexOf l .root)
+  root-node = ap (nth (nodesIn l)) (sym (slot-read (nodesIn l) (indexOf l .height) 0)) ∙ all-head (sound-holds-index l (k .sound) .tree)
+
+  root-few : length (entriesOf (indexOf l)) < 1048576
+  root-few = omega (arith, entries-most (settingsIn l) (indexOf l) sound)
+
+  pub pool-weighs : Weighs st (words l) height 0
+  pool-weighs =
+      own (λ s h. Weighs s (words l) h 0)
       (record {
         held = sound-held l (k .sound);
         slot = omega (arith, k .sound .settings .many);
-        node = ap (nth (nodesIn l)) (sym (slot-read (nodesIn l) (indexOf l .height) 0)) ∙ all-head (sound-holds-index l (k .sound) .tree);
-        fit = sound .fit;
-        few = omega (arith, entries-most (settingsIn l) (indexOf l) sound);
+        sums = subst (λ (n : S.Node). Sums (indexOf l .height) (n .rows)) (sym root-node) (sums-fit (indexOf l .height) (indexOf l .root) root-few (sound .fit));
       })
 
-  pub pool-totals : total (suc height) (treeAt (nodes st (words l)) height 0) ≡ totalsOf (indexOf l)
-  pool-totals = own (λ s h. total (suc h) (treeAt (nodes s (words l)) h 0) ≡ totalsOf (indexOf l)) refl
+  pub pool-totals : sumRows height (rowsAt st (words l) 0) ≡ totalsOf (indexOf l)
+  pool-totals =
+      own (λ s h. sumRows h (rowsAt s (words l) 0) ≡ totalsOf (indexOf l))
+      (ap (λ (n : S.Node). sumRows (indexOf l .height) (n .rows)) root-node ∙ rows-total (indexOf l .height) (indexOf l .root .items) root-few)
 
   pool-entries : entries (suc height) (treeAt (nodes st (words l)) height 0) ≡ entriesOf (indexOf l)
   pool-entries = own (λ s h. entries (suc h) (treeAt (nodes s (words l)) h 0) ≡ entriesOf (indexOf l)) refl

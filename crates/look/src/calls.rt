@@ -11,7 +11,6 @@ use crate::Listed;
 use crate::Scanned;
 use crate::lookup::get_keys;
 use crate::query::Query;
-use crate::sums::stats;
 use crate::walk::scan_node;
 use model::Bound;
 use model::Direction;
@@ -24,7 +23,7 @@ pub fn totals(pool: &[u8], st: Settings, height: usize) -> Totals
     requires { ⌜ InPool (now pool) st height ⌝ }
     ensures { λ r. ⌜ r ≡ totalsOf (indexOf (now (pool .entry))) ⌝ }
 {
-    stats(pool, st, height, 0)
+    tree::stats(pool, st, height, 0)
 }
 
 // Lists one entry for each key that is present (the Rust's `get`).

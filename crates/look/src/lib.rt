@@ -1,6 +1,5 @@
 // Looking into a sound pool: its totals, the entries of some keys, and a scan.
 mod calls; // the three calls
-mod sums; // the totals of one node, from its rows
 mod lookup; // a multi-get, key by key
 mod walk; // a scan's walk over the tree
 mod query; // what a scan asks of a row
@@ -9,7 +8,6 @@ mod output; // entries written to the lent output
 pub use calls::get;
 pub use calls::scan;
 pub use calls::totals;
-pub use sums::stats;
 
 // What a call has listed: how many entries it has written, and whether another was due that did not fit.
 pub struct Listed {

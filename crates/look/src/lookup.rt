@@ -15,7 +15,6 @@ ghost use Rattle.look.specs.Output.{page, enlistAll, freshPage};
 ghost use Rattle.look.specs.Lookup.{Grown, Leads, Chosen};
 use crate::Listed;
 use crate::output::list_row;
-use crate::walk::child_of;
 use model::Settings;
 use slots::Found;
 
@@ -81,7 +80,7 @@ fn leaf_for(pool: &[u8], st: Settings, height: usize, key: u64) -> usize
     while 0 < h {
         let i = child_for(pool, st, s, key);
         let row = slots::row_at(pool, st, s, i);
-        s = child_of(row);
+        s = tree::child_of(row);
         h -= 1;
     }
     s

@@ -92,7 +92,7 @@ fn scan_child(
     if !is_entered(q, row) {
         return w;
     }
-    let child = child_of(row);
+    let child = tree::child_of(row);
     scan_node(pool, st, below, child, q, out, room, w)
 }
 
@@ -139,11 +139,4 @@ fn list_due(q: Query, out: &mut [u8], room: usize, l: Listed, row: Row) -> Liste
         return l;
     }
     list_row(out, room, l, row)
-}
-
-// The slot that an interior's row names.
-pub fn child_of(row: Row) -> usize
-    ensures { λ r. ⌜ r ≡ childOf row ⌝ }
-{
-    (row.body / 1099511627776) as usize
 }

@@ -27,7 +27,7 @@ use Rattle.look.proofs.walk.+scan_child+scan_children+scan_node.Lts-sca
 use Rattle.look.proofs.query.goes_on.Reads as goes-on-reads
 use Rattle.look.proofs.query.is_entered.Reads as is-entered-reads
 use Rattle.look.proofs.query.place_in.Reads as place-in-reads
-use Rattle.look.proofs.walk.child_of.Reads as child-of-reads
+use Rattle.tree.proofs.child_of.Reads as child-of-reads
 use Rattle.look.proofs.walk.scan_leaf.Reads as scan-leaf-reads
 use Rattle.slots.proofs.count.Reads as count-reads
 use Rattle.slots.proofs.row_at.Reads as row-at-reads
