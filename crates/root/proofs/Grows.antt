@@ -13,7 +13,7 @@ use Rattle.model.specs.Tree.{Tree}
 use Rattle.model.proofs.Lists.{all-head}
 use Rattle.model.proofs.Settles.{length-others}
 use Rattle.tree.specs.Bridge.{treeAt, unusedOf}
-use Rattle.settle.specs.Weigh.{Sums}
+use Rattle.tree.specs.Sums.{Sums}
 use Rattle.settle.proofs.Places.{slot-at, node-used}
 use Rattle.root.specs.Roots.{Splits, Halved, Moves, moved, Moved, Crowns, crowned}
 use Rattle.root.proofs.Indexes.{pool-lowest, now-holds}

@@ -22,7 +22,8 @@ use Rattle.model.proofs.Trees.{slotsIn, slots-append}
 use Rattle.tree.specs.Bridge.{kindFor, rowFor, nodeFor, cellsOf, Stands, Holds, unusedOf, Blank, HoldsIndex, Apart}
 use Rattle.tree.proofs.Cells.{cells-append, agree-items, agree-tree, used-items, kind-used}
 use Rattle.tree.proofs.Unused.{unused-taken}
-use Rattle.settle.specs.Weigh.{Sums, rowOver}
+use Rattle.tree.specs.Sums.{Sums}
+use Rattle.settle.specs.Weigh.{rowOver}
 use Rattle.settle.specs.Steps.{Bounded}
 use Rattle.settle.proofs.Weights.{row-over, sums-fit, bounded-left, bounded-right}
 use Rattle.settle.proofs.Places.{used-in, node-used}

@@ -15,7 +15,8 @@ use Rattle.model.specs.Sound.{Fits}
 use Rattle.tree.specs.Bridge.{treeAt, unusedOf, Blank, HoldsIndex, Apart}
 use Rattle.settle.specs.declared.ChangeResult.{ChangeResult}
 use Rattle.settle.specs.Settle.{resultIs, Low, childAt}
-use Rattle.settle.specs.Weigh.{Sums, rowOver}
+use Rattle.tree.specs.Sums.{Sums}
+use Rattle.settle.specs.Weigh.{rowOver}
 use Rattle.root.specs.declared.Root.{Root}
 use Rattle.root.specs.Batch.{indexAt}
 

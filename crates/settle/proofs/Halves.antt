@@ -24,7 +24,8 @@ use Rattle.tree.specs.Bridge.{rowFor, nodeFor, unusedOf}
 use Rattle.tree.proofs.Cells.{kind-used}
 use Rattle.tree.proofs.Unused.{unused-taken, unused-kept, used-none, unused-once}
 use Rattle.settle.specs.Settle.{kidsAt, Settled}
-use Rattle.settle.specs.Weigh.{rowOver, Weighs, Renews, renewed}
+use Rattle.tree.specs.Sums.{Weighs}
+use Rattle.settle.specs.Weigh.{rowOver, Renews, renewed}
 use Rattle.settle.specs.Steps.{Bounded, Focus, Came, Left}
 use Rattle.settle.proofs.Weights.{row-over, sums-fit, bounded-left, bounded-right}
 use Rattle.settle.proofs.Zips.{set-turned, putIn-turned, map-turned}

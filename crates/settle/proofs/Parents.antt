@@ -14,7 +14,8 @@ use Rattle.slots.proofs.Pairs.{kept-rows}
 use Rattle.model.specs.declared.Settings.{Settings}
 use Rattle.tree.specs.Bridge.{unusedOf}
 use Rattle.tree.proofs.Unused.{unused-kept}
-use Rattle.settle.specs.Weigh.{rowOver, Sums, Renews, renewed, RenewsTwo, renewedTwo}
+use Rattle.tree.specs.Sums.{Sums}
+use Rattle.settle.specs.Weigh.{rowOver, Renews, renewed, RenewsTwo, renewedTwo}
 
 pub rows-same : (ns : List S.Node) (s : ℕ) (l : List Row) → s < length ns → nth (putRows ns s l) s ≡ withRows (nth ns s) l
 unfolding putRows

@@ -1,14 +1,12 @@
 // The row by which a child stands in its parent: its greatest key, its slot and its totals.
 ghost use mathlib.Core.Path.{_≡_};
-ghost use Prim.Native.Nat.{_<_};
 ghost use Rattle.words.specs.Words.{words};
-ghost use Rattle.slots.specs.Nodes.{Now, nodes, rowsAt};
-ghost use Rattle.model.specs.Tree.{len, plus};
-ghost use Rattle.tree.specs.Bridge.{childRow};
+ghost use Rattle.slots.specs.Nodes.{At, Now, nodes, rowsAt};
+ghost use Rattle.model.specs.Tree.{len};
+ghost use Rattle.tree.specs.Sums.{Weighs};
 ghost use Rattle.settle.specs.Settle.{childAt};
-ghost use Rattle.settle.specs.Weigh.{rowTotals, rowOver, Adds, Weighs, Sits, Named, Renews, renewed, RenewsTwo, renewedTwo};
+ghost use Rattle.settle.specs.Weigh.{lastKey, rowOver, Sits, Named, Renews, renewed, RenewsTwo, renewedTwo};
 use model::Settings;
-use model::Totals;
 use slots::Row;
 
 // Rows `i` and `i + 1` of node `s` become those of nodes `p` and `c`, of height `below`.
@@ -42,72 +40,21 @@ pub fn weigh(pool: &[u8], st: Settings, below: usize, c: usize) -> Row
     requires { ⌜ Weighs st (words (now pool)) below c ⌝ }
     ensures { λ r. ⌜ r ≡ rowOver below c (rowsAt st (words (now (pool .entry))) c) ⌝ }
 {
+    let key = last_key(pool, st, c);
+    let totals = tree::stats(pool, st, below, c);
+    tree::child_row(key, c, totals)
+}
+
+// The key of the last row of node `c`, or 0 where it has none.
+fn last_key(pool: &[u8], st: Settings, c: usize) -> u64
+    requires { ⌜ At st (words (now pool)) c ⌝ }
+    ensures { λ r. ⌜ r ≡ lastKey (rowsAt st (words (now (pool .entry))) c) ⌝ }
+{
     let n = slots::count(pool, st, c);
-    let mut key = 0;
-    let mut sum = Totals {
-        live: 0,
-        dead: 0,
-        size: 0,
-    };
-    let mut j = 0;
-    while j < n {
-        let row = slots::row_at(pool, st, c, j);
-        key = row.key;
-        sum = add_row(below, sum, row);
-        j += 1;
+    if n == 0 {
+        return 0;
     }
-    child_row(key, c, sum)
-}
-
-// A child's row: its slot stands in the body beside its counts, which have twenty bits each.
-fn child_row(key: u64, c: usize, t: Totals) -> Row
-    requires { ⌜ (c < 16384) × ((t .live < 1048576) × (t .dead < 1048576)) ⌝ }
-    ensures { λ r. ⌜ r ≡ childRow key c t ⌝ }
-{
-    let body = c as u64 * 1099511627776 + t.live as u64 * 1048576 + t.dead as u64;
-    Row {
-        key,
-        body,
-        size: t.size,
-    }
-}
-
-// The totals `t` and what a row of a node of height `below` adds to them.
-fn add_row(below: usize, t: Totals, row: Row) -> Totals
-    requires { ⌜ Adds below t row ⌝ }
-    ensures { λ r. ⌜ r ≡ plus t (rowTotals below row) ⌝ }
-{
-    let a = row_totals(below, row);
-    Totals {
-        live: t.live + a.live,
-        dead: t.dead + a.dead,
-        size: t.size + a.size,
-    }
-}
-
-// What a row of a node of height `below` adds to its totals: an entry counts itself, a child has its counts beside its slot.
-fn row_totals(below: usize, row: Row) -> Totals
-    ensures { λ r. ⌜ r ≡ rowTotals below row ⌝ }
-{
-    if below != 0 {
-        return Totals {
-            live: (row.body / 1048576 % 1048576) as u32,
-            dead: (row.body % 1048576) as u32,
-            size: row.size,
-        };
-    }
-    if row.body == 0 {
-        return Totals {
-            live: 0,
-            dead: 1,
-            size: row.size,
-        };
-    }
-    Totals {
-        live: 1,
-        dead: 0,
-        size: row.size,
-    }
+    slots::key_at(pool, st, c, n - 1)
 }
 
 // The slot of child `i` of node `s`.
@@ -116,7 +63,7 @@ pub fn child_at(pool: &[u8], st: Settings, below: usize, s: usize, i: usize) -> 
     ensures { λ r. let W = words (now (pool .entry)) in ⌜ Named st W below (childAt (nodes st W) below s i) r ⌝ }
 {
     let row = slots::row_at(pool, st, s, i);
-    (row.body / 1099511627776) as usize
+    tree::child_of(row)
 }
 
 // How many rows child `i` of node `s` has.

@@ -16,7 +16,7 @@ returns c =
     let a = start .args in
     let ns = nodes (a .st) (words (a .pool .now)) in
     named (a .st) (words (a .pool .now)) (a .below) (a .s) (a .i) _ _ (start .pre)
-    (ap childOf (c .before .row-at .ensures) ∙ sym (slot-at ns (a .below) (childOf (getD (nth ns (a .s) .rows) (a .i) blank))))
+    (c .child-of .ensures ∙ ap childOf (c .before .row-at .ensures) ∙ sym (slot-at ns (a .below) (childOf (getD (nth ns (a .s) .rows) (a .i) blank))))
 
 pub child-at-spec : {M : Type 1} → statement M
-child-at-spec = tie.close (tie.spec (λ c κs. search needs) returns)
+child-at-spec = tie.close (tie.spec (λ c κs. search needs) (λ c κs. search needs) returns)
