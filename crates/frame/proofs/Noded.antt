@@ -2,7 +2,7 @@
 use mathlib.Core.Path.{_≡_, refl, sym, ap, subst, _∙_}
 use mathlib.Core.List.{List, [], _∷_, _++_, map}
 use mathlib.Core.Option.{some}
-use Prim.Native.Nat.{ℕ, zero, suc, _+_, _*_, _/_, _%_, _≤_, _<_}
+use Prim.Native.Nat.{ℕ, zero, suc, _+_, _≤_, _<_}
 use native.Mathlib.Omega.{arith}
 use native.Mathlib.Numerals.{add-one}
 use lib.ListN.{length, take, drop, getD, getElem?, length-append}
@@ -21,9 +21,9 @@ use Rattle.model.specs.Tree.{Tree, entries, slots, entriesOf, greatestKey, tota
 use Rattle.model.specs.Frame.{Branch, Frame, leaf, interior, nodesIn, branches, framesOf, fitted, written, writeNode, lineOf}
 use Rattle.model.specs.Sound.{Fits, Sound}
 use Rattle.model.proofs.Lists.{all-head}
-use Rattle.tree.specs.Bridge.{entryOf, childOf, rowFor, treeAt}
+use Rattle.tree.specs.Bridge.{entryOf, childOf, childTotals, rowFor, treeAt}
 use Rattle.tree.specs.Pool.{nodesOf, SoundPool, settingsIn, indexOf}
-use Rattle.tree.proofs.ReadOff.{total-count}
+use Rattle.tree.proofs.Sums.{child-total}
 use Rattle.tree.proofs.Few.{used-few, entries-most, slots-low}
 use Rattle.tree.proofs.Fitting.{nodesOf-fit}
 use Rattle.tree.proofs.NodesOf.{held-nodesOf}
@@ -38,7 +38,7 @@ use Rattle.frame.specs.declared.WriteAnswer.the-variants as Write
 use Rattle.frame.specs.Contents as C
 use Rattle.frame.specs.Contents.{ofEntry, branchOf, ofBranch, held, frameOf, contentsOf}
 use Rattle.frame.specs.Answers.{Writes}
-use Rattle.frame.specs.Walk.{itemAt, totalsIn, entryFor, kindAt, frameAt, Standing, Finds}
+use Rattle.frame.specs.Walk.{itemAt, entryFor, kindAt, frameAt, Standing, Finds}
 use Rattle.frame.proofs.Coded.{frame-held}
 use Rattle.frame.proofs.Walks.{passed, frames-long, elem-past}
 
@@ -72,33 +72,16 @@ leaf-numbered : (ns : List S.Node) (n : ℕ) (rs : List Row) → map ofEntry (ma
 leaf-numbered ns n [] = refl
 leaf-numbered ns n (r ∷ rs) = ap (ofEntry (entryOf r) ∷_) (leaf-numbered ns (n + 0) rs)
 
--- the middle of three numbers in one word
-middle : (s a b : ℕ) → a < 1048576 → b < 1048576 → (s * 1099511627776 + a * 1048576 + b) / 1048576 % 1048576 ≡ a
-middle s a b ha hb =
-    let e : (s * 1099511627776 + a * 1048576 + b) / 1048576 ≡ s * 1048576 + a = omega arith in
-    let f : (s * 1048576 + a) % 1048576 ≡ a = omega arith in
-    ap (_% 1048576) e ∙ f
-
 module _ (ns : List S.Node) (h : ℕ) where
   abbrev kid : Row → Tree h
   kid r = treeAt ns h (childOf r)
 
   -- a row is its child's, so it stores the child's separator and totals
-  totals-row : (r : Row) → rowFor (suc h) (kid r) ≡ r → length (entries (suc h) (kid r)) < 1048576 → total (suc h) (kid r) ≡ totalsIn r
-  totals-row r e few =
-      let body : r .body ≡ kid r .slot * 1099511627776 + total (suc h) (kid r) .live * 1048576 + total (suc h) (kid r) .dead = ap (λ (x : Row). x .body) (sym e) in
-      let both = total-count (suc h) (kid r) in
-      let live : total (suc h) (kid r) .live ≡ r .body / 1048576 % 1048576 =
-      sym (ap (λ (b : ℕ). b / 1048576 % 1048576) body ∙ middle (kid r .slot) (total (suc h) (kid r) .live) (total (suc h) (kid r) .dead) (omega (arith, both)) (omega (arith, both))) in
-      let dead : total (suc h) (kid r) .dead ≡ r .body % 1048576 = omega (arith, total-count (suc h) (kid r)) in
-      let size : total (suc h) (kid r) .size ≡ r .size = ap (λ (x : Row). x .size) e in
-      λ j. record { live = live j; dead = dead j; size = size j }
-
   branch-row : (n : ℕ) (r : Row) → rowFor (suc h) (kid r) ≡ r → length (entries (suc h) (kid r)) < 1048576
       → ofBranch (record { key = greatestKey (suc h) (kid r); child = n; totals = total (suc h) (kid r) }) ≡ entryFor (suc h) r n
   branch-row n r e few =
       let key : greatestKey (suc h) (kid r) ≡ r .key = ap (λ (x : Row). x .key) e in
-      let totals = totals-row r e few in
+      let totals : total (suc h) (kid r) ≡ childTotals r = sym (child-total h (kid r) few) ∙ ap childTotals e in
       λ j. ofBranch (record { key = key j; child = n; totals = totals j })
 
   branches-numbered : (n : ℕ) (rs : List Row) → map (rowFor (suc h)) (map kid rs) ≡ rs → length (concat (map (entries (suc h)) (map kid rs))) < 1048576
@@ -137,7 +120,7 @@ pub entry-low : (h n : ℕ) (r : Row) → h ≡ 0 → ofEntry (entryOf r) ≡ en
 entry-low zero n r e = refl
 entry-low (suc h) n r e = absurd (omega arith)
 
-pub entry-high : (h n : ℕ) (r : Row) → (h ≡ 0 → ⊥) → ofBranch (record { key = r .key; child = n; totals = totalsIn r }) ≡ entryFor h r n
+pub entry-high : (h n : ℕ) (r : Row) → (h ≡ 0 → ⊥) → ofBranch (record { key = r .key; child = n; totals = childTotals r }) ≡ entryFor h r n
 entry-high zero n r e = absurd (e refl)
 entry-high (suc h) n r e = refl
 

@@ -2,18 +2,17 @@
 use mathlib.Core.Path.{_≡_}
 use mathlib.Core.List.{List}
 use mathlib.Core.Option.{some}
-use Prim.Native.Nat.{ℕ, zero, suc, _+_, _/_, _%_, _≤_, _<_}
+use Prim.Native.Nat.{ℕ, zero, suc, _+_, _≤_, _<_}
 use lib.ListN.{length, getElem?}
 use Rattle.slots.specs.declared.Row.{Row}
 use Rattle.slots.specs.Nodes.{Held, nodes, nth}
 use Rattle.slots.specs.Nodes as S
 use Rattle.model.specs.declared.Settings.{Settings}
-use Rattle.model.specs.declared.Totals.{Totals}
 use Rattle.model.specs.Lists.{All}
 use Rattle.model.specs.Tree.{Item, Tree, entries, slots}
 use Rattle.model.specs.Frame.{Frame, leaf, interior, branches, framesFrom}
 use Rattle.model.specs.Sound.{Fits}
-use Rattle.tree.specs.Bridge.{entryOf, childOf, treeAt, Holds}
+use Rattle.tree.specs.Bridge.{entryOf, childOf, childTotals, treeAt, Holds}
 use Rattle.frame.specs.declared.Kind.{Kind}
 use Rattle.frame.specs.declared.Kind.the-variants.{Leaf, Interior}
 use Rattle.frame.specs.declared.FrameEntry.{FrameEntry}
@@ -28,13 +27,10 @@ abbrev pub itemAt : List S.Node → (h : ℕ) → Row → Item h
 itemAt ns zero r = entryOf r
 itemAt ns (suc h) r = treeAt ns h (childOf r)
 
-abbrev pub totalsIn : Row → Totals
-totalsIn r = record { live = r .body / 1048576 % 1048576; dead = r .body % 1048576; size = r .size }
-
 -- the frame's entry of a row in a node of height h; a child has the number n
 abbrev pub entryFor : ℕ → Row → ℕ → FrameEntry
 entryFor zero r n = ofEntry (entryOf r)
-entryFor (suc h) r n = ofBranch (record { key = r .key; child = n; totals = totalsIn r })
+entryFor (suc h) r n = ofBranch (record { key = r .key; child = n; totals = childTotals r })
 
 -- TREES
 

@@ -24,7 +24,6 @@ use crate::walk::find;
 use crate::walk::nodes_in;
 use crate::writer::put_frame;
 use model::Settings;
-use model::Totals;
 use slots::Row;
 
 // Writes the frame of node `i` in preorder, or refuses with 14 or 16. The settings and the height are the pool's own.
@@ -90,10 +89,7 @@ fn entry_for(row: Row, height: usize, child: usize) -> FrameEntry
     if height == 0 {
         return leaf_entry(row.key, row.body, row.size as u32);
     }
-    let live = (row.body / 1048576 % 1048576) as u32;
-    let dead = (row.body % 1048576) as u32;
-    let size = row.size;
-    branch(row.key, child as u32, Totals { live, dead, size })
+    branch(row.key, child as u32, tree::child_totals(row))
 }
 
 // How many nodes row `j` stands for: those of a child, and none in a leaf.

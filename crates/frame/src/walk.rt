@@ -64,5 +64,5 @@ pub fn child_at(pool: &[u8], st: Settings, height: usize, s: usize, j: usize) ->
     ensures { λ r. ⌜ Standing st (words (now (pool .entry))) (height - 1) r ⌝ }
 {
     let row = slots::row_at(pool, st, s, j);
-    (row.body / 1099511627776) as usize
+    tree::child_of(row)
 }

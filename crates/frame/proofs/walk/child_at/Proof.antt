@@ -1,13 +1,12 @@
 -- `child_at` meets its contract: what stands in a node's slot stands in its child's. Assumes nothing.
-use mathlib.Core.Path.{ap}
+use mathlib.Core.Path.{ap, _∙_}
+use borrow.Author.Needs.{needs}
 use native.Mathlib.Omega.{arith}
 use Rattle.words.specs.Words.{words}
 use Rattle.tree.specs.Bridge.{childOf}
 use Rattle.frame.proofs.Walks.{standing-at, standing-down}
 use Rattle.frame.proofs.walk.child_at.Statement.{statement}
 use Rattle.frame.proofs.walk.child_at.Tie as tie
-use Rattle.frame.proofs.walk.child_at.Reads as reads
-use Rattle.frame.proofs.walk.child_at.Lts as lts
 
 -- src/walk.rt:66:9
 row-at-requires : tie.Need-row-at-requires
@@ -19,8 +18,8 @@ row-at-requires c κs =
 returns : tie.Need-returns
 returns c =
     let s = c .before .before .before in
-    let e = ap childOf (c .before .row-at .ensures) in
-    (e, standing-down (s .args .st) (words (s .args .pool .now)) (s .args .height) (s .args .s) (s .args .j) (childOf (c .before .row-at .result)) (s .pre .0) (s .pre .1 .0) (s .pre .1 .1) e)
+    let e = c .child-of .ensures ∙ ap childOf (c .before .row-at .ensures) in
+    (e, standing-down (s .args .st) (words (s .args .pool .now)) (s .args .height) (s .args .s) (s .args .j) (c .child-of .result) (s .pre .0) (s .pre .1 .0) (s .pre .1 .1) e)
 
 pub child-at-spec : {M : Type 1} → statement M
-child-at-spec = tie.close (tie.spec row-at-requires returns)
+child-at-spec = tie.close (tie.spec row-at-requires (λ c κs. search needs) returns)
