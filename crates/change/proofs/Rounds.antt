@@ -239,7 +239,7 @@ module _ {st : Settings} {W₀ W : List ℕ} {h s : ℕ} {op : Operation} {ps zs
           ∙ ap (λ (x : ℕ). getD (reverseAux (map (rowFor (suc h)) (z .before)) (map (rowFor (suc h)) (z .child ∷ z .after))) x blank) n
           ∙ getD-turned 0 (map (rowFor (suc h)) (z .before)) (map (rowFor (suc h)) (z .child ∷ z .after)) blank
 
-      module _ {reach : ℕ} (et : reach ≡ ceilingFor (row .key) (getD ks next 0) ceiling) where
+      module _ {slot : ℕ} (es : slot ≡ childOf row) {reach : ℕ} (et : reach ≡ ceilingFor (row .key) (getD ks next 0) ceiling) where
         abbrev top : ℕ
         top = ceilingFor (greatestKey (suc h) (z .child)) (r .task .key) ceiling
 
@@ -254,13 +254,13 @@ module _ {st : Settings} {W₀ W : List ℕ} {h s : ℕ} {op : Operation} {ps zs
         child-light : Light h (z .child)
         child-light = omega (arith, ask .small)
 
-        read-child : treeAt (nodes st W) h (childOf row) ≡ z .child
+        read-child : treeAt (nodes st W) h slot ≡ z .child
         read-child =
-            ap (λ (x : Row). treeAt (nodes st W) h (childOf x)) row-is ∙ ap (treeAt (nodes st W) h) (child-slot h (z .child) child-light)
+            ap (treeAt (nodes st W) h) (es ∙ ap childOf row-is ∙ child-slot h (z .child) child-light)
             ∙ held-tree (nodes st W) h (z .child) child-light (ask .holds)
 
         -- WHAT THE CALL OF NODE CHANGE ASKS
-        pub child-call : Call st W h (childOf row) op ps zs ks next reach c low
+        pub child-call : Call st W h slot op ps zs ks next reach c low
         child-call =
             record {
               held = r .here .held;
@@ -271,7 +271,7 @@ module _ {st : Settings} {W₀ W : List ℕ} {h s : ℕ} {op : Operation} {ps zs
             }
 
         -- AFTER THE CALL
-        module _ {W₁ : List ℕ} {y : Reply} (came : Came st W W₁ h (childOf row) op ps zs ks next reach c y) where
+        module _ {W₁ : List ℕ} {y : Reply} (came : Came st W W₁ h slot op ps zs ks next reach c y) where
           abbrev o : Outcome (Tree h)
           o = change st h top (z .child) (r .task ∷ r .tasks) (runOf (nodes st W) c)
 

@@ -103,8 +103,7 @@ fn interior_change(
         let key = keys[next];
         let j = seek_child(pool, st, s, i, key);
         let row = slots::row_at(pool, st, s, j);
-        // a row names its child's slot above the child's live and dead entries
-        let child = (row.body / 1099511627776) as usize;
+        let child = tree::child_of(row);
         let reach = ceiling_for(row.key, key, ceiling);
         let r = node_change(
             pool,

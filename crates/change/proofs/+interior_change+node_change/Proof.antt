@@ -23,6 +23,7 @@ use Rattle.change.proofs.walk.roams_on.Reads as roams-on-reads
 use Rattle.change.proofs.walk.seek_child.Reads as seek-child-reads
 use Rattle.slots.proofs.count.Reads as count-reads
 use Rattle.slots.proofs.row_at.Reads as row-at-reads
+use Rattle.tree.proofs.child_of.Reads as child-of-reads
 use Rattle.change.proofs.+interior_change+node_change.{statement}
 use Rattle.change.proofs.+interior_change+node_change.Tie.{close}
 
@@ -65,6 +66,8 @@ ic t = (
   seek-child-reads.Learnt,
   row-at-reads.Asked,
   row-at-reads.Learnt,
+  child-of-reads.Asked,
+  child-of-reads.Learnt,
   ceiling-for-reads.Asked,
   ceiling-for-reads.Learnt,
   node-change-below t,
@@ -123,23 +126,27 @@ interior-change-row-at-requires t c κs =
     let g = round-at (c .before .before .before .before .before .before .before .loop .inv .0) in
     record { held = g .held; slot = g .slot; within = omega (arith, c .before .seek-child .ensures .within) }
 
--- src/lib.rt:108:13
+-- src/lib.rt:106:13
+interior-change-child-of-requires : (t : ℕ) → interior-change-lts.Need-child-of-requires (ic t) (interior-change-at t) interior-change.Post interior-change-Inv-loop interior-change-μ-loop
+interior-change-child-of-requires t c κs = tt
+
+-- src/lib.rt:107:13
 interior-change-ceiling-for-requires : (t : ℕ) → interior-change-lts.Need-ceiling-for-requires (ic t) (interior-change-at t) interior-change.Post interior-change-Inv-loop interior-change-μ-loop
 interior-change-ceiling-for-requires t c κs = tt
 
--- src/lib.rt:109:13
+-- src/lib.rt:108:13
 interior-change-node-change-requires : (t : ℕ) → interior-change-lts.Need-node-change-requires (ic t) (interior-change-at t) interior-change.Post interior-change-Inv-loop interior-change-μ-loop
 interior-change-node-change-requires t c κs = (
   omega (arith, c .before .before .before .before .before .before .before .before .before .before .before .before .before .before .before .before .pre .0),
-  child-call (round (c .before .before .before .before .before .before .before .before .before .before .before .loop .inv .0) (sym (c .before .before .before .before .before .before .before .before .before .roams-on .ensures) ∙ c .before .before .before .before .before .before .before .before .if1 .taken)) (c .before .before .before .before .before .seek-child .ensures) (c .before .before .before .row-at .ensures) (c .before .ceiling-for .ensures),
+  child-call (round (c .before .before .before .before .before .before .before .before .before .before .before .loop .inv .0) (sym (c .before .before .before .before .before .before .before .before .before .roams-on .ensures) ∙ c .before .before .before .before .before .before .before .before .if1 .taken)) (c .before .before .before .before .before .seek-child .ensures) (c .before .before .before .row-at .ensures) (c .before .before .child-of .ensures) (c .before .ceiling-for .ensures),
 )
 
--- src/lib.rt:124:13
+-- src/lib.rt:123:13
 interior-change-settle-child-requires : (t : ℕ) → interior-change-lts.Need-settle-child-requires (ic t) (interior-change-at t) interior-change.Post interior-change-Inv-loop interior-change-μ-loop
 interior-change-settle-child-requires t c κs =
-    pending (round (c .before .before .before .before .before .before .before .before .before .before .before .before .before .before .before .loop .inv .0) (sym (c .before .before .before .before .before .before .before .before .before .before .before .before .before .roams-on .ensures) ∙ c .before .before .before .before .before .before .before .before .before .before .before .before .if1 .taken)) (c .before .before .before .before .before .before .before .before .before .seek-child .ensures) (c .before .before .before .before .before .before .before .row-at .ensures) (c .before .before .before .before .before .ceiling-for .ensures) (c .before .before .before .node-change .ensures)
+    pending (round (c .before .before .before .before .before .before .before .before .before .before .before .before .before .before .before .loop .inv .0) (sym (c .before .before .before .before .before .before .before .before .before .before .before .before .before .roams-on .ensures) ∙ c .before .before .before .before .before .before .before .before .before .before .before .before .if1 .taken)) (c .before .before .before .before .before .before .before .before .before .seek-child .ensures) (c .before .before .before .before .before .before .before .row-at .ensures) (c .before .before .before .before .before .before .child-of .ensures) (c .before .before .before .before .before .ceiling-for .ensures) (c .before .before .before .node-change .ensures)
 
--- src/lib.rt:127:9
+-- src/lib.rt:126:9
 interior-change-changed-by-requires : (t : ℕ) → interior-change-lts.Need-changed-by-requires (ic t) (interior-change-at t) interior-change.Post interior-change-Inv-loop interior-change-μ-loop
 interior-change-changed-by-requires t c κs = tt
 
@@ -149,21 +156,21 @@ interior-change-loop-less t c =
     omega (
       arith,
       next-in (c .before .before .before .before .before .before .before .before .before .before .before .before .before .before .before .before .before .before .before .before .loop .inv .0) (sym (c .before .before .before .before .before .before .before .before .before .before .before .before .before .before .before .before .before .before .roams-on .ensures) ∙ c .before .before .before .before .before .before .before .before .before .before .before .before .before .before .before .before .before .if1 .taken),
-      round-less (round (c .before .before .before .before .before .before .before .before .before .before .before .before .before .before .before .before .before .before .before .before .loop .inv .0) (sym (c .before .before .before .before .before .before .before .before .before .before .before .before .before .before .before .before .before .before .roams-on .ensures) ∙ c .before .before .before .before .before .before .before .before .before .before .before .before .before .before .before .before .before .if1 .taken)) (c .before .before .before .before .before .before .before .before .before .before .before .before .before .before .seek-child .ensures) (c .before .before .before .before .before .before .before .before .before .before .before .before .row-at .ensures) (c .before .before .before .before .before .before .before .before .before .before .ceiling-for .ensures) (c .before .before .before .before .before .before .before .before .node-change .ensures) (c .before .before .before .before .settle-child .ensures),
+      round-less (round (c .before .before .before .before .before .before .before .before .before .before .before .before .before .before .before .before .before .before .before .before .loop .inv .0) (sym (c .before .before .before .before .before .before .before .before .before .before .before .before .before .before .before .before .before .before .roams-on .ensures) ∙ c .before .before .before .before .before .before .before .before .before .before .before .before .before .before .before .before .before .if1 .taken)) (c .before .before .before .before .before .before .before .before .before .before .before .before .before .before .seek-child .ensures) (c .before .before .before .before .before .before .before .before .before .before .before .before .row-at .ensures) (c .before .before .before .before .before .before .before .before .before .before .before .child-of .ensures) (c .before .before .before .before .before .before .before .before .before .before .ceiling-for .ensures) (c .before .before .before .before .before .before .before .before .node-change .ensures) (c .before .before .before .before .settle-child .ensures),
     )
 
 -- src/lib.rt:102:5
 interior-change-loop-again : (t : ℕ) → interior-change-lts.Need-loop-again (ic t) (interior-change-at t) interior-change.Post interior-change-Inv-loop interior-change-μ-loop
 interior-change-loop-again t c = (
-  round-again (round (c .before .before .before .before .before .before .before .before .before .before .before .before .before .before .before .before .before .before .before .before .loop .inv .0) (sym (c .before .before .before .before .before .before .before .before .before .before .before .before .before .before .before .before .before .before .roams-on .ensures) ∙ c .before .before .before .before .before .before .before .before .before .before .before .before .before .before .before .before .before .if1 .taken)) (c .before .before .before .before .before .before .before .before .before .before .before .before .before .before .seek-child .ensures) (c .before .before .before .before .before .before .before .before .before .before .before .before .row-at .ensures) (c .before .before .before .before .before .before .before .before .before .before .ceiling-for .ensures) (c .before .before .before .before .before .before .before .before .node-change .ensures) (c .before .before .before .before .settle-child .ensures) (c .before .changed-by .ensures),
+  round-again (round (c .before .before .before .before .before .before .before .before .before .before .before .before .before .before .before .before .before .before .before .before .loop .inv .0) (sym (c .before .before .before .before .before .before .before .before .before .before .before .before .before .before .before .before .before .before .roams-on .ensures) ∙ c .before .before .before .before .before .before .before .before .before .before .before .before .before .before .before .before .before .if1 .taken)) (c .before .before .before .before .before .before .before .before .before .before .before .before .before .before .seek-child .ensures) (c .before .before .before .before .before .before .before .before .before .before .before .before .row-at .ensures) (c .before .before .before .before .before .before .before .before .before .before .before .child-of .ensures) (c .before .before .before .before .before .before .before .before .before .before .ceiling-for .ensures) (c .before .before .before .before .before .before .before .before .node-change .ensures) (c .before .before .before .before .settle-child .ensures) (c .before .changed-by .ensures),
   c .before .before .before .before .settle-child .kept .0 ∙ c .before .before .before .before .before .before .before .before .node-change .kept .0 ∙ c .before .before .before .before .before .before .before .before .before .before .before .before .before .before .before .before .before .before .before .before .loop .inv .1,
 )
 
--- src/lib.rt:132:9
+-- src/lib.rt:131:9
 interior-change-count-requires : (t : ℕ) → interior-change-lts.Need-count-requires (ic t) (interior-change-at t) interior-change.Post interior-change-Inv-loop interior-change-μ-loop
 interior-change-count-requires t c κs = round-at (c .before .before .before .before .loop .inv .0)
 
--- src/lib.rt:133:9
+-- src/lib.rt:132:9
 interior-change-result-of-requires : (t : ℕ) → interior-change-lts.Need-result-of-requires (ic t) (interior-change-at t) interior-change.Post interior-change-Inv-loop interior-change-μ-loop
 interior-change-result-of-requires t c κs = tt
 
@@ -224,6 +231,7 @@ pub +interior-change+node-change-spec : {M : Type 1} → statement M
     (interior-change-shared-slice-read-key t)
     (interior-change-seek-child-requires t)
     (interior-change-row-at-requires t)
+    (interior-change-child-of-requires t)
     (interior-change-ceiling-for-requires t)
     (interior-change-node-change-requires t)
     (interior-change-settle-child-requires t)
