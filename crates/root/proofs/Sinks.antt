@@ -28,14 +28,15 @@ single : {st : Settings} {W : List ℕ} {h : ℕ} → Lone st W h → Single (no
 single p = record { holds = p .keeps .holds .tree; apart = p .keeps .apart; one = p .one }
 
 -- ONE CHILD, named by the root's row
-module _ {st : Settings} {W₀ : List ℕ} {h : ℕ} (pre : Lone st W₀ h) {row : Row} (er : row ≡ getD (rowsAt st W₀ 0) 0 blank) where
+module _ {st : Settings} {W₀ : List ℕ} {h : ℕ} (pre : Lone st W₀ h) {row : Row} (er : row ≡ getD (rowsAt st W₀ 0) 0 blank)
+    {child : ℕ} (ec : child ≡ childOf row) where
   abbrev ns : List S.Node
   ns = nodes st W₀
 
-  slot-is : childAt ns h 0 0 .slot ≡ childOf row
-  slot-is = slot-at ns h (childOf (getD (nth ns 0 .rows) 0 blank)) ∙ ap childOf (sym er)
+  slot-is : childAt ns h 0 0 .slot ≡ child
+  slot-is = slot-at ns h (childOf (getD (nth ns 0 .rows) 0 blank)) ∙ ap childOf (sym er) ∙ sym ec
 
-  away : childOf row ≢ 0
+  away : child ≢ 0
   away e = child-root (single pre) (slot-is ∙ e)
 
   root-in : 0 < st .nodes
@@ -43,7 +44,7 @@ module _ {st : Settings} {W₀ : List ℕ} {h : ℕ} (pre : Lone st W₀ h) {row
 
   module _ {W₁ W₂ : List ℕ} {k : ℕ} (ek : k ≡ kindFor h) (out : Now st W₀ W₁ (putRows (nodes st W₀) 0 (without (rowsAt st W₀ 0) 0 1)))
       (kinded : Now st W₁ W₂ (putKind (nodes st W₁) 0 k)) where
-    pub to-join : Give st W₂ (childOf row) 0 (length (rowsAt st W₂ (childOf row)))
+    pub to-join : Give st W₂ child 0 (length (rowsAt st W₂ child))
     to-join =
         let bare : length (rowsAt st W₂ 0) ≡ 0 =
         ap length (kept-same st W₁ W₂ 0 0 k kinded root-in ∙ own-rows st W₀ W₁ 0 (without (rowsAt st W₀ 0) 0 1) out root-in ∙ none-left (rowsAt st W₀ 0) (pre .one)) in
@@ -53,18 +54,18 @@ module _ {st : Settings} {W₀ : List ℕ} {h : ℕ} (pre : Lone st W₀ h) {row
           slot2 = root-in;
           apart = away;
           has = omega arith;
-          room = omega (arith, bare, fits-node st W₂ (childOf row) (kinded .held));
+          room = omega (arith, bare, fits-node st W₂ child (kinded .held));
         }
 
-    pub child-lifted : {W₃ : List ℕ} → Now st W₂ W₃ (joinNodes (nodes st W₂) 0 (childOf row)) → Becomes st W₀ W₃ (lifted ns h)
+    pub child-lifted : {W₃ : List ℕ} → Now st W₂ W₃ (joinNodes (nodes st W₂) 0 child) → Becomes st W₀ W₃ (lifted ns h)
     child-lifted {W₃} joined =
         let f : List S.Node → List S.Node = λ ms. putKind ms 0 k in
-        let g : List S.Node → List S.Node = λ ms. joinNodes ms 0 (childOf row) in
+        let g : List S.Node → List S.Node = λ ms. joinNodes ms 0 child in
         let first : List S.Node = putRows ns 0 (without (nth ns 0 .rows) 0 1) in
         now-holds st W₀ W₃ (raise (single pre)) (lifted ns h)
         (become st W₀ W₃ (g (f first)) (raise (single pre)) (then g st W₀ W₂ W₃ (f first) (then f st W₀ W₁ W₂ first out kinded) joined)
-        (raised ns 0 (childOf row) k away (omega (arith, length-nodes st W₀, root-in)) (pre .one)
-        ∙ ap (λ (j : ℕ). put2 ns 0 (record { kind = j; rows = nth ns (childOf row) .rows }) (childOf row) unused) ek
+        (raised ns 0 child k away (omega (arith, length-nodes st W₀, root-in)) (pre .one)
+        ∙ ap (λ (j : ℕ). put2 ns 0 (record { kind = j; rows = nth ns child .rows }) child unused) ek
         ∙ ap (λ (j : ℕ). put2 ns 0 (record { kind = kindFor h; rows = nth ns j .rows }) j unused) (sym slot-is)))
         (raise-holds (single pre) (pre .keeps .holds .blank))
 

@@ -23,7 +23,7 @@ fn lift_child(pool: &mut [u8], st: Settings, below: usize)
     ensures { λ _. let W = words (now (pool .entry)) in ⌜ Becomes st W (words (now (pool .exit))) (lifted (nodes st W) below) ⌝ }
 {
     let row = slots::row_at(pool, st, 0, 0);
-    let child = (row.body / 1099511627776) as usize;
+    let child = tree::child_of(row);
     let k = tree::kind_for(below);
     slots::remove_row(pool, st, 0, 0);
     slots::set_kind(pool, st, 0, k);
