@@ -10,7 +10,7 @@ use lib.ListN.{length, drop, length-map}
 use Rattle.slots.specs.declared.Row.{Row}
 use Rattle.slots.specs.Nodes.{nodes, nth, unused, rowsAt, putRows}
 use Rattle.slots.specs.Nodes as S
-use Rattle.slots.proofs.Nodes.{length-nodes, nth-rows}
+use Rattle.slots.proofs.Nodes.{length-nodes, nth-rows, nth-put}
 use Rattle.model.specs.declared.Settings.{Settings}
 use Rattle.model.specs.declared.Counts.{Counts}
 use Rattle.model.specs.declared.Operation.{Operation}
@@ -26,8 +26,8 @@ use Rattle.leaf.specs.declared.Progress.{Progress}
 use Rattle.leaf.specs.Leaf.{Leaf, Took, taking, tasksOf}
 use Rattle.leaf.proofs.Tasks.{taken-unused}
 use Rattle.tree.specs.Bridge.{entryOf, entryRow, nodeFor, cellsOf, Stands, treeAt, unusedOf, Blank}
-use Rattle.settle.proofs.Places.{used-in}
-use Rattle.settle.proofs.Parents.{rows-same, unused-rows}
+use Rattle.tree.proofs.Unused.{used-in}
+use Rattle.settle.proofs.Parents.{unused-rows}
 use Rattle.settle.specs.declared.ChangeResult.{ChangeResult}
 use Rattle.settle.specs.Settle.{resultIs, Low}
 use Rattle.change.specs.Calls.{runOf, Call, Came}
@@ -43,7 +43,7 @@ module _ (ns : List S.Node) (s : ℕ) (l : List Row) (inside : s < length ns) wh
   kind-rows x = by (ℕ-discrete x s)
     where
       by : Dec (x ≡ s) → nth (putRows ns s l) x .kind ≡ nth ns x .kind
-      by (yes e) = rw e (ap (λ (n : S.Node). n .kind) (rows-same ns s l inside))
+      by (yes e) = rw e (ap (λ (n : S.Node). n .kind) (nth-put ns s l inside))
       by (no e) = ap (λ (n : S.Node). n .kind) (nth-rows ns x s l e)
 
   pub blank-rows : nth ns s .kind ≢ 0 → Blank ns → Blank (putRows ns s l)
@@ -103,7 +103,7 @@ module _ {st : Settings} {W : List ℕ} {s : ℕ} {op : Operation} {ps zs ks : L
 
     node : nth (nodes st W′) s ≡ nodeFor 0 (o .node)
     node =
-        ap (λ (ms : List S.Node). nth ms s) (took .did .is) ∙ rows-same ns s rows inside ∙ ap (λ (k : ℕ). record { kind = k; rows = rows }) is-leaf
+        ap (λ (ms : List S.Node). nth ms s) (took .did .is) ∙ nth-put ns s rows inside ∙ ap (λ (k : ℕ). record { kind = k; rows = rows }) is-leaf
         ∙ ap (λ (x : Walked Entry). record { kind = 1; rows = map entryRow (x .items) }) alike
 
     long : n ≡ length (o .node .items)

@@ -1,29 +1,26 @@
 -- The loop of interior change, over nodes: what a turn asks of a child, what it leaves, and where the loop ends. Assumes nothing.
 use mathlib.Core.Path.{_≡_, refl, sym, ap, _∙_, subst}
-use mathlib.Core.Logic.{inl, inr}
 use mathlib.Core.Bool.{Bool, false, _||_}
 use mathlib.Core.List.{List, [], _∷_, _++_, reverseAux}
 use Prim.Native.Nat.{ℕ, zero, suc, _+_, _*_, _≤_, _<_}
 use native.Mathlib.Omega.{arith}
-use native.Mathlib.Nat.{mul-suc, not-suc-le-zero, le-refl}
-use lib.Dec.{ltb}
+use native.Mathlib.Nat.{not-suc-le-zero}
 use lib.ListN.{length, length-append, length-reverseAux}
-use borrow.Author.Tests.{le-leb, lt-leb, ltb-false}
+use borrow.Author.Tests.{le-leb, lt-leb}
 use Rattle.slots.specs.Nodes as S
 use Rattle.model.specs.declared.Settings.{Settings}
 use Rattle.model.specs.declared.Counts.{Counts}
-use Rattle.model.specs.declared.Entry.{Entry}
 use Rattle.model.specs.Lists.{times, All}
 use Rattle.model.specs.Tree.{Node, Item, Tree, slots, greatestKey}
-use Rattle.model.specs.Plain.{Task, step, plainList}
+use Rattle.model.specs.Plain.{Task}
 use Rattle.model.specs.Share.{Place}
 use Rattle.model.specs.Change.{Result, isChange, resultOf, Run, Walked, Outcome, Spot, seek, ceilingFor, settle, walk, change}
 use Rattle.model.specs.Sound.{InLimits, Stocked, Fits}
-use Rattle.model.proofs.Lists.{by-test, all-left, all-right, all-head}
-use Rattle.model.proofs.Plain.{Grants, step-long, list-all}
+use Rattle.model.proofs.Lists.{all-left, all-right, all-head}
+use Rattle.model.proofs.Plain.{Grants, list-long, list-all}
 use Rattle.model.proofs.Trees.{flat, flat-three, flat-joined, joined, back}
-use Rattle.model.proofs.Settles.{OverFull, Says, takes, takes-none, takes-one, itemsOf, settles}
-use Rattle.model.proofs.Changes.{Rising, Removing, Enough, Given, Owes, Ranged, Passed, Sought, Turned, did-left, stocked-ready, outcome, chosen-law, chosen-given, owing, turning, first-ranged, none-passed, change-law}
+use Rattle.model.proofs.Settles.{Says, takes, itemsOf, settles}
+use Rattle.model.proofs.Changes.{Rising, Enough, child-enough, Given, Owes, Ranged, Passed, Sought, Turned, did-left, stocked-ready, ceiling-due, one-left, outcome, chosen-law, chosen-given, owing, turning, first-ranged, none-passed, change-law}
 use Rattle.tree.specs.Bridge.{Holds, unusedOf, Apart}
 use Rattle.settle.specs.Settle.{Low, inner, Loose, Settled}
 use Rattle.change.specs.Calls.{runOf, Asked, Answers}
@@ -52,10 +49,6 @@ pub record Walking (st : Settings) (h s ceiling : ℕ) (ns₀ : List S.Node) (t�
 change-slot : (st : Settings) (h ceiling : ℕ) (t : Tree h) (ts : List Task) (run : Run) → change st h ceiling t ts run .node .slot ≡ t .slot
 change-slot st zero ceiling t ts run = refl
 change-slot st (suc h) ceiling t ts run = refl
-
-list-long : (ts : List Task) (es : List Entry) → length (plainList ts es) ≤ length es + length ts
-list-long [] es = omega arith
-list-long (t ∷ ts) es = omega (arith, list-long ts (step t es), step-long t es)
 
 -- A TURN
 
@@ -107,10 +100,6 @@ module _ {st : Settings} {h s ceiling : ℕ} {ns₀ : List S.Node} {t₀ : Tree 
             (λ x. ap (λ (ys : List (Tree h)). times x (slots (suc (suc h)) (inner h s ys)) + times x (unusedOf ns)) same ∙ w .stroll .same x);
       }
 
-  child-enough : Enough (suc h) (t ∷ ts) (unusedOf ns) → Enough h (t ∷ ts) (unusedOf ns)
-  child-enough (inl room) = inl (omega (arith, mul-suc (suc (length ts)) h))
-  child-enough (inr rem) = inr rem
-
   -- the entries of the child are among those of the place
   three : flat h (back (spot .before)) ++ (flat h (spot .child .items) ++ flat h (joined (spot .after))) ≡ flat h (back before ++ joined (k ∷ ks))
   three = sym (flat-three h (back (spot .before)) (spot .child .items) (joined (spot .after))) ∙ ap (flat h) (found .same)
@@ -130,20 +119,15 @@ module _ {st : Settings} {h s ceiling : ℕ} {ns₀ : List S.Node} {t₀ : Tree 
       all-left (flat h (spot .child .items)) (flat h (joined (spot .after)))
       (all-right (flat h (back (spot .before))) _ (subst (All Fits) (sym three) (w .fit)))
 
-  child-due : t .key ≤ reach
-  child-due =
-      by-test (λ (n : ℕ). t .key ≤ n) (ltb (greatestKey (suc h) (spot .child)) (t .key)) (λ e. le-refl (t .key))
-      (λ e. omega (arith, le, ltb-false (greatestKey (suc h) (spot .child)) (t .key) e))
-
   pub asked : {low : ℕ} → Low st ns low → Asked st h reach low ns (spot .child) (t ∷ ts)
   asked low =
       record {
         holds = child-holds among;
         apart = child-apart among;
         given = given;
-        enough = child-enough (w .enough);
+        enough = child-enough h (t ∷ ts) (unusedOf ns) (w .enough);
         ready = stocked-ready st h (spot .child) (found .stocked);
-        due = child-due;
+        due = ceiling-due st h lim ceiling before (k ∷ ks) t ts (runOf ns c) spot out found (w .ranged) (w .rising) le owes;
         small = child-small;
         fit = child-fit;
         sets = w .sets;
@@ -159,17 +143,8 @@ module _ {st : Settings} {h s ceiling : ℕ} {ns₀ : List S.Node} {t₀ : Tree 
   pub stocked-sides : (All (Stocked st) (spot .before)) × (All (Stocked st) (spot .after))
   stocked-sides = (found .stocked-before, found .stocked-after)
 
-  -- removals do not split a child
-  takes-nothing : Removing (t ∷ ts) → takes (out .result) ≡ 0
-  takes-nothing rem =
-      takes-none (out .result)
-      (λ e.
-      let over : OverFull st (out .node) = rw e at says in
-      omega (arith, over .over, owes .shrinks rem, found .stocked .few))
-
   pub room : Enough (suc h) (t ∷ ts) (unusedOf ns) → takes (out .result) ≤ length (out .run .unused)
-  room (inl g) = omega (arith, takes-one (out .result), fewer, owes .spent, g, mul-suc (suc (length ts)) h)
-  room (inr rem) = omega (arith, takes-nothing rem)
+  room = one-left st h lim ceiling before (k ∷ ks) t ts (runOf ns c) spot out found (w .ranged) (w .rising) le owes
 
   settled-same : itemsOf place ≡ back (spot .before) ++ (out .node .items ++ joined (spot .after))
   settled-same = settles st lim (out .result) (out .node) (out .run .unused) says (found .stocked-before) (found .stocked-after) .same
@@ -201,7 +176,7 @@ module _ {st : Settings} {h s ceiling : ℕ} {ns₀ : List S.Node} {t₀ : Tree 
     slot-kept = change-slot st h reach (spot .child) (t ∷ ts) (runOf ns c)
 
     slots-kept : (x : ℕ) → times x (slots (suc h) (out .node)) + times x (out .run .unused) ≡ times x (slots (suc h) (spot .child)) + times x (unusedOf ns)
-    slots-kept = owes .slots (child-enough (w .enough))
+    slots-kept = owes .slots (child-enough h (t ∷ ts) (unusedOf ns) (w .enough))
 
     pub loose : Loose h s ms (spot .before) (spot .child) (out .node) (spot .after)
     loose = loosened among done slot-kept slots-kept

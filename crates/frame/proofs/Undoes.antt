@@ -32,7 +32,7 @@ use Rattle.frame.specs.Undo.{OneWritten, OneRead, readAs, ReadsWritten, 
 
 -- ONE ANSWER
 
-told-same : (r q : WriteAnswer) → lengthTold r ≡ lengthTold q → r ≡ q
+pub told-same : (r q : WriteAnswer) → lengthTold r ≡ lengthTold q → r ≡ q
 told-same (Write.Done n) (Write.Done m) e = let z : n ≡ m = cc in ap Write.Done z
 told-same (Write.Done n) (Write.Refused m) e = absurd (refused-done m n (sym e))
 told-same (Write.Refused n) (Write.Done m) e = absurd (refused-done n m e)

@@ -12,11 +12,11 @@ use Rattle.slots.specs.Slots.{blank}
 use Rattle.slots.specs.Nodes.{nodes, nth, At}
 use Rattle.slots.specs.Nodes as S
 use Rattle.model.specs.declared.Settings.{Settings}
-use Rattle.model.specs.Lists.{concat, All, none, one}
-use Rattle.model.specs.Tree.{Item, Tree, entries, slots}
+use Rattle.model.specs.Lists.{concat, none, one}
+use Rattle.model.specs.Tree.{Tree, entries, slots}
 use Rattle.model.specs.Frame.{Frame, nodesIn, inTurn, framesFrom}
-use Rattle.model.proofs.Lists.{all-left, all-right, all-head, all-tail}
-use Rattle.model.proofs.Trees.{slotsIn}
+use Rattle.model.proofs.Lists.{all-head, all-tail, parts-at}
+use Rattle.model.proofs.Trees.{slotsIn, leaf-bare}
 use Rattle.tree.specs.Bridge.{childOf, cells, treeAt}
 use Rattle.tree.proofs.SoundHolds.{slot-read}
 use Rattle.frame.specs.declared.Found.the-variants.{Node, Left}
@@ -25,11 +25,6 @@ use Rattle.frame.specs.Walk.{itemAt, frameAt, Standing, Finds}
 -- ONE OF SOME LISTS, joined
 
 module _ {A B C : Type 0} (f : B → List C) (g : A → B) (d : A) where
-  all-at : {P : C → Type 0} (xs : List A) (j : ℕ) → j < length xs → All P (concat (map f (map g xs))) → All P (f (g (getD xs j d)))
-  all-at [] j h p = absurd (omega arith)
-  all-at (x ∷ xs) zero h p = all-left (f (g x)) (concat (map f (map g xs))) p
-  all-at (x ∷ xs) (suc j) h p = all-at xs j (omega arith) (all-right (f (g x)) (concat (map f (map g xs))) p)
-
   long-at : (xs : List A) (j : ℕ) → j < length xs → length (f (g (getD xs j d))) ≤ length (concat (map f (map g xs)))
   long-at [] j h = absurd (omega arith)
   long-at (x ∷ xs) zero h = omega (arith, length-append (f (g x)) (concat (map f (map g xs))))
@@ -48,10 +43,10 @@ child-standing st W h s j p g =
     let kid : Row → Tree h = λ r. treeAt ns h (childOf r) in
     record {
       held = p .held;
-      stands = all-at (cells (suc h)) kid blank rs j g (all-tail (p .stands));
-      low = all-at (slots (suc h)) kid blank rs j g (all-tail (p .low));
+      stands = parts-at (cells (suc h)) kid rs j blank g (all-tail (p .stands));
+      low = parts-at (slots (suc h)) kid rs j blank g (all-tail (p .low));
       few = omega (arith, p .few, long-at (slots (suc h)) kid blank rs j g);
-      fit = all-at (entries (suc h)) kid blank rs j g (p .fit);
+      fit = parts-at (entries (suc h)) kid rs j blank g (p .fit);
       light = omega (arith, p .light, long-at (entries (suc h)) kid blank rs j g);
       narrow = p .narrow;
     }
@@ -142,13 +137,9 @@ module _ (h : ℕ) (f : (k : ℕ) (t : Tree h) → length (framesFrom h k t) ≡
         length-append (slots (suc h) c) (slotsIn (suc h) cs),
       )
 
-leaf-slots : (es : List (Item zero)) → length (slotsIn zero es) ≡ 0
-leaf-slots [] = refl
-leaf-slots (e ∷ es) = leaf-slots es
-
 -- one for each node
 pub frames-long : (h k : ℕ) (t : Tree h) → length (framesFrom h k t) ≡ length (slots (suc h) t)
-frames-long zero k t = omega (arith, leaf-slots (t .items))
+frames-long zero k t = omega (arith, leaf-bare (t .items))
 frames-long (suc h) k t = ap suc (turn-long h (frames-long h) (k + 1) (t .items))
 
 module _ (ns : List S.Node) (h : ℕ) where

@@ -8,8 +8,7 @@ use Rattle.model.specs.Look.{Request}
 use Rattle.model.specs.Refuse.{Call}
 use Rattle.model.proofs.Answers.{refused-done}
 use Rattle.frame.specs.declared.WriteAnswer.{WriteAnswer}
-use Rattle.frame.specs.declared.WriteAnswer.the-variants as Write
-use Rattle.frame.specs.Answers.{lengthTold}
+use Rattle.frame.proofs.Undoes.{told-same}
 use Rattle.index.specs.declared.OpenAnswer.{OpenAnswer}
 use Rattle.index.specs.declared.OpenAnswer.the-variants as Open
 use Rattle.index.specs.declared.TotalsAnswer.{TotalsAnswer}
@@ -64,12 +63,6 @@ same-scan (Scan.Done t) (Scan.Refused n) e = absurd (refused-done n t (sym e))
 same-scan (Scan.Refused n) (Scan.Done t) e = absurd (refused-done n t e)
 same-scan (Scan.Refused n) (Scan.Refused m) e = cc
 
-same-line : (r q : WriteAnswer) → lengthTold r ≡ lengthTold q → r ≡ q
-same-line (Write.Done t) (Write.Done u) e = cc
-same-line (Write.Done t) (Write.Refused n) e = absurd (refused-done n t (sym e))
-same-line (Write.Refused n) (Write.Done t) e = absurd (refused-done n t e)
-same-line (Write.Refused n) (Write.Refused m) e = cc
-
 -- THE CALLS
 
 pub one-opening : (st : Settings) (l k m : List ℕ) (r q : OpenAnswer) → Opens st l r k → Opens st l q m → (r ≡ q) × (k ≡ m)
@@ -88,4 +81,4 @@ pub one-scan : (l : List ℕ) (p : Request) (out k m : List ℕ) (r q : ScanAnsw
 one-scan l p out k m r q a b = let e = parts (where-unique a b) in (same-scan r q (e .0), e .1)
 
 pub one-frame : (l : List ℕ) (i : ℕ) (line k m : List ℕ) (r q : WriteAnswer) → Frames l i line r k → Frames l i line q m → (r ≡ q) × (k ≡ m)
-one-frame l i line k m r q a b = let e = parts (where-unique a b) in (same-line r q (e .0), e .1)
+one-frame l i line k m r q a b = let e = parts (where-unique a b) in (told-same r q (e .0), e .1)

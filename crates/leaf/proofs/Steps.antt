@@ -4,56 +4,40 @@ use mathlib.Core.Bool.{Bool, true, false, cond, true≢false}
 use mathlib.Core.List.{List, [], _∷_, _++_, map, append-assoc}
 use mathlib.Core.Option.{Option, none, some}
 use Prim.Native.Nat.{ℕ, zero, suc, _≤_, _<_}
-use native.Mathlib.Nat.{not-suc-le-zero, le-of-suc-le-suc}
 use native.Mathlib.Numerals.{add-one}
 use native.Mathlib.Omega.{arith}
 use lib.Dec.{eqb, ltb}
-use lib.ListN.{length, getD, set, take, drop, drop-of-length-le}
-use lib.Seq.{drop-cons, set-split, set-getD, set-set}
+use lib.ListN.{length, getD, take, drop, drop-of-length-le}
+use lib.Seq.{drop-cons, set-split}
 use borrow.Author.Tests.{ltb-true, ltb-false, eqb-true, eq-eqb}
 use Rattle.slots.specs.declared.Row.{Row}
 use Rattle.slots.specs.declared.Found.{Found}
 use Rattle.slots.specs.declared.Found.the-variants as F
 use Rattle.slots.specs.Slots.{blank}
-use Rattle.slots.specs.Nodes.{Node, Now, unused, nodes, nth, putRows, rowsAt, withRows}
+use Rattle.slots.specs.Nodes.{Now, nodes, putRows, rowsAt}
 use Rattle.slots.specs.Search.{keyAt, Ascending, pick, findRow, Sought, Within}
 use Rattle.slots.specs.Search as S
 use Rattle.slots.proofs.Over.{map-append}
-use Rattle.slots.proofs.Nodes.{become, nth-same}
+use Rattle.slots.proofs.Nodes.{become}
 use Rattle.model.specs.declared.Settings.{Settings}
 use Rattle.model.specs.declared.Entry.{Entry}
 use Rattle.model.specs.declared.Reference.{Reference}
 use Rattle.model.specs.declared.Action.{Action}
 use Rattle.model.specs.declared.Action.the-variants as Do
-use Rattle.model.specs.Lists.{cons}
-use Rattle.model.specs.Lists as L
 use Rattle.model.specs.Plain.{Task, Wish, always, ifMet, Effect, leave, add, replace, remove, step, effect, act, met, held, above, below, from, under, alters, entryFor}
 use Rattle.model.specs.Sound.{Sorted}
 use Rattle.model.proofs.Lists.{by-test}
-use Rattle.model.proofs.Plain.{Over, step-idle}
+use Rattle.model.proofs.Plain.{step-idle}
+use Rattle.model.proofs.Readable.{entry-keys}
 use Rattle.tree.specs.Bridge.{entryOf, entryRow}
+use Rattle.tree.proofs.SoundHolds.{rows-again}
+use Rattle.tree.proofs.Keys.{rows-ascend, entries-from}
 use Rattle.leaf.specs.declared.Presence.{Presence}
 use Rattle.leaf.specs.declared.Deed.{Deed}
 use Rattle.leaf.specs.declared.Deed.the-variants as D
 use Rattle.leaf.specs.Deeds.{refOf, optionOf, effectOf}
 use Rattle.leaf.specs.Leaf.{Leaf}
 use Rattle.leaf.specs.Keys.{presenceAt, placeOf, performed, Able, KeyDone}
-
--- THE ROWS OF ONE NODE, put again
-
-pub put-same : (ns : List Node) (s : ℕ) → putRows ns s (nth ns s .rows) ≡ ns
-unfolding putRows
-put-same ns s = set-getD ns s unused
-
-pub put-put : (ns : List Node) (s : ℕ) (l m : List Row) → s < length ns → putRows (putRows ns s l) s m ≡ putRows ns s m
-unfolding putRows
-put-put ns s l m h =
-    ap (λ (n : Node). set (set ns s (withRows (nth ns s) l)) s (withRows n m)) (nth-same ns s (withRows (nth ns s) l) h)
-    ∙ set-set ns s (withRows (nth ns s) l) (withRows (nth ns s) m)
-
-pub nth-put : (ns : List Node) (s : ℕ) (l : List Row) → s < length ns → nth (putRows ns s l) s .rows ≡ l
-unfolding putRows
-nth-put ns s l h = ap (λ (n : Node). n .rows) (nth-same ns s (withRows (nth ns s) l) h)
 
 -- ROWS AND ENTRIES
 
@@ -63,25 +47,12 @@ entries l = map entryOf l
 abbrev rows : List Entry → List Row
 rows es = map entryRow es
 
-pub rows-back : (l : List Row) → rows (entries l) ≡ l
-rows-back [] = refl
-rows-back (r ∷ l) = ap (r ∷_) (rows-back l)
-
 rows-append : (a b : List Entry) → rows (a ++ b) ≡ rows a ++ rows b
 rows-append a b = map-append entryRow a b
 
-over-at : (k : ℕ) (l : List Row) → Over k (entries l) → (j : ℕ) → j < length l → k < keyAt l j
-over-at k [] o j h = absurd (not-suc-le-zero h)
-over-at k (r ∷ l) (L.one g gs) zero h = g
-over-at k (r ∷ l) (L.one g gs) (suc j) h = over-at k l gs j (le-of-suc-le-suc h)
-
 -- sorted entries can be searched
 pub ascending : (l : List Row) → Sorted (entries l) → Ascending l
-ascending [] s i j h g = absurd (not-suc-le-zero g)
-ascending (r ∷ l) (cons o s) zero zero h g = absurd (not-suc-le-zero h)
-ascending (r ∷ l) (cons o s) zero (suc j) h g = over-at (r .key) l o j (le-of-suc-le-suc g)
-ascending (r ∷ l) (cons o s) (suc i) zero h g = absurd (not-suc-le-zero h)
-ascending (r ∷ l) (cons o s) (suc i) (suc j) h g = ascending l s i j (le-of-suc-le-suc h) (le-of-suc-le-suc g)
+ascending l s = subst Ascending (rows-again l) (rows-ascend zero (entries l) (entry-keys s))
 
 -- WHERE A KEY STANDS
 
@@ -98,20 +69,8 @@ module _ (k : ℕ) where
   low-rows [] = refl
   low-rows (r ∷ l) = low-one r l (ltb (r .key) k) (low-rows l)
 
-  high-one : (r : Row) (l : List Row) (b : Bool) → from k (entries l) ≡ entries (drop (S.below k l) l)
-      → cond b (from k (entries l)) (entryOf r ∷ entries l) ≡ entries (drop (pick b (suc (S.below k l)) 0) (r ∷ l))
-  unfolding pick
-  high-one r l true h = h
-  high-one r l false h = refl
-
-  -- and those from k on the rows from there
-  high-rows : (l : List Row) → from k (entries l) ≡ entries (drop (S.below k l) l)
-  unfolding S.below
-  high-rows [] = refl
-  high-rows (r ∷ l) = high-one r l (ltb (r .key) k) (high-rows l)
-
   from-row : (l : List Row) (i : ℕ) → i ≡ S.below k l → i < length l → from k (entries l) ≡ entryOf (getD l i blank) ∷ entries (drop (suc i) l)
-  from-row l i e h = high-rows l ∙ ap (λ (j : ℕ). entries (drop j l)) (sym e) ∙ ap entries (drop-cons l i blank h)
+  from-row l i e h = entries-from k l ∙ ap (λ (j : ℕ). entries (drop j l)) (sym e) ∙ ap entries (drop-cons l i blank h)
 
   above-row : (l : List Row) (i : ℕ) → i ≡ S.below k l → i < length l → keyAt l i ≡ k → above k (from k (entries l)) ≡ entries (drop (suc i) l)
   above-row l i e h q = rw (from-row l i e h, eq-eqb (keyAt l i) k q) refl
@@ -129,7 +88,7 @@ module _ (k : ℕ) where
       let e = from-row l (S.below k l) refl (ltb-true _ _ p) in
       lacks refl (rw (e, q) refl) (rw (e, q) refl)
   viewed l false b p q =
-      let e : from k (entries l) ≡ [] = high-rows l ∙ ap entries (drop-of-length-le l (ltb-false _ _ p)) in
+      let e : from k (entries l) ≡ [] = entries-from k l ∙ ap entries (drop-of-length-le l (ltb-false _ _ p)) in
       lacks refl (rw e refl) (rw e refl)
 
   view : (l : List Row) (r : Found) → Sought l k r → View l r
@@ -203,19 +162,19 @@ module _ (k : ℕ) (w : Wish) (l : List Row) where
       → take i l ++ (rows es ++ drop j l) ≡ rows (below k (entries l) ++ (es ++ above k (from k (entries l))))
   joined i j es p g =
       ap (λ (x : List Row). x ++ (rows es ++ drop j l)) (ap (λ (n : ℕ). take n l) p ∙ sym (low-rows k l))
-      ∙ ap (λ (x : List Row). rows (below k (entries l)) ++ (rows es ++ x)) (sym (rows-back (drop j l)) ∙ ap rows (sym g))
+      ∙ ap (λ (x : List Row). rows (below k (entries l)) ++ (rows es ++ x)) (sym (rows-again (drop j l)) ∙ ap rows (sym g))
       ∙ ap (λ (x : List Row). rows (below k (entries l)) ++ x) (sym (rows-append es (above k (from k (entries l)))))
       ∙ sym (rows-append (below k (entries l)) (es ++ above k (from k (entries l))))
 
   -- the rows after a deed are the entries after the task
   performed-step : (r : Found) (d : Deed) → View k l r → effectOf d ≡ effect w (held k (entries l)) → performed l (placeOf r) k d ≡ rows (step task (entries l))
-  performed-step r D.Leave v e = sym (rows-back l) ∙ ap rows (sym (step-idle task (entries l) (ap alters (sym e))))
+  performed-step r D.Leave v e = sym (rows-again l) ∙ ap rows (sym (step-idle task (entries l) (ap alters (sym e))))
   performed-step (F.At i) (D.Add n) (stands p h q) e =
       absurd (true≢false (ap adds e ∙ ap (λ (o : Option Reference). adds (effect w o)) (sym (presence-held k l (F.At i) (stands p h q)))
       ∙ present w (refOf (getD l i blank .body) (getD l i blank .size))))
   performed-step (F.Before i) (D.Add n) (lacks p h g) e =
       append-assoc (take i l) (entryRow (entryFor k n) ∷ []) (drop i l)
-      ∙ joined i i (entryFor k n ∷ []) p (g ∙ high-rows k l ∙ ap (λ (j : ℕ). entries (drop j l)) (sym p))
+      ∙ joined i i (entryFor k n ∷ []) p (g ∙ entries-from k l ∙ ap (λ (j : ℕ). entries (drop j l)) (sym p))
       ∙ ap rows (sym (stepped (add n) e))
   performed-step (F.At i) (D.Replace n) (stands p h q) e =
       set-split l i (entryRow (entryFor k n)) h

@@ -8,8 +8,9 @@ use native.Mathlib.Omega.{arith}
 use lib.Dec.{ltb, leb}
 use lib.ListN.{length, getD, drop, length-map}
 use borrow.Author.Tests.{ltb-true, ltb-false, leb-true}
-use Rattle.slots.specs.Nodes.{Node, Now, nodes, nth, unused, putRows, rowsAt}
-use Rattle.slots.proofs.Nodes.{length-nodes, become}
+use Rattle.slots.specs.Nodes.{Node, Now, nodes, putRows, rowsAt}
+use Rattle.slots.proofs.Nodes.{length-nodes, become, put-same, put-put}
+use Rattle.slots.proofs.Pairs.{own-rows}
 use Rattle.model.specs.declared.Settings.{Settings}
 use Rattle.model.specs.declared.Reference.{Reference}
 use Rattle.model.specs.declared.Counts.{Counts}
@@ -22,11 +23,11 @@ use Rattle.model.proofs.Lists.{both-left, both-right}
 use Rattle.model.proofs.Plain.{step-sorted}
 use Rattle.tree.specs.Bridge.{entryOf, entryRow}
 use Rattle.tree.proofs.ReadOff.{entries-back}
+use Rattle.tree.proofs.SoundHolds.{rows-again}
 use Rattle.leaf.specs.declared.Deed.{Deed}
 use Rattle.leaf.specs.Deeds.{refOf, wishOf, effectOf}
 use Rattle.leaf.specs.Leaf.{Leaf, Lent, Few, tasksOf, Batch, Took, taking}
 use Rattle.leaf.specs.Keys.{taskOf, KeyDone, goesOn}
-use Rattle.leaf.proofs.Steps.{put-same, put-put, nth-put, rows-back}
 use Rattle.leaf.proofs.Tasks.{task-next, task-none, lent-next}
 
 -- THE LOOP
@@ -109,8 +110,7 @@ module _ {st : Settings} {W₀ W : List ℕ} {s : ℕ} {op : Operation} {ps zs k
       turn-on {W′} {d} k e1 e2 =
           let w : next < length ks = turn-within in
           let new = map entryRow (step task es) in
-          let rows : rowsAt st W′ s ≡ new =
-          ap (λ (ns : List Node). nth ns s .rows) (k .did .is) ∙ nth-put (nodes st W) s new (omega (arith, length-nodes st W, t .slot)) in
+          let rows : rowsAt st W′ s ≡ new = own-rows st W W′ s new (k .did) (t .slot) in
           let now : map entryOf (rowsAt st W′ s) ≡ step task es = ap (map entryOf) rows ∙ entries-back (step task es) in
           record {
             did = record {
@@ -152,7 +152,7 @@ module _ {st : Settings} {W₀ W : List ℕ} {s : ℕ} {op : Operation} {ps zs k
         ∙ ap (λ (m : ℕ). takeTasks m ceiling (drop at ts) (map entryOf (rowsAt st W₀ s)) false (record { unused = us; counts = c₀ })) limit in
         record {
           did = become st W₀ W _ _ (t .did)
-              (ap (putRows (nodes st W₀) s) (sym (rows-back (rowsAt st W s)) ∙ ap (λ (x : Walked Entry). map entryRow (x .items)) all));
+              (ap (putRows (nodes st W₀) s) (sym (rows-again (rowsAt st W s)) ∙ ap (λ (x : Walked Entry). map entryRow (x .items)) all));
           left = ap (λ (x : Walked Entry). x .tasks) all;
           changed = ap (λ (x : Walked Entry). x .changed) all;
           counts = ap (λ (x : Walked Entry). x .run .counts) all;

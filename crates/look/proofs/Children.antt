@@ -1,22 +1,21 @@
 -- The rows of a node that holds a tree are right: each is the row of the child that it names, and the nodes hold that child. Assumes nothing.
-use mathlib.Core.Path.{_≡_, refl, sym, ap, _∙_, subst}
+use mathlib.Core.Path.{_≡_, refl, sym, ap, _∙_}
 use mathlib.Core.List.{List, [], _∷_, map}
 use Prim.Native.Nat.{ℕ, zero, suc, _<_}
 use native.Mathlib.Omega.{arith}
-use native.Mathlib.Decide.{decLt}
 use native.Mathlib.Nat.{not-suc-le-zero, le-of-suc-le-suc}
-use lib.ListN.{length, getD, length-map, List·getD-eq-default}
+use lib.ListN.{length, getD, length-map}
 use Rattle.slots.specs.declared.Row.{Row}
 use Rattle.slots.specs.Slots.{blank}
-use Rattle.slots.specs.Nodes.{nodes, nth, unused, At, Held}
+use Rattle.slots.specs.Nodes.{nodes, nth, At, Held}
 use Rattle.slots.specs.Nodes as S
 use Rattle.slots.proofs.Nodes.{length-nodes}
 use Rattle.model.specs.declared.Settings.{Settings}
-use Rattle.model.specs.Lists.{All}
-use Rattle.model.specs.Tree.{Item, Tree}
-use Rattle.model.proofs.Lists.{all-left, all-right, all-head, all-tail}
-use Rattle.tree.specs.Bridge.{kindFor, rowFor, childOf, Cell, cells, cellsOf, Stands, Holds, treeAt}
+use Rattle.model.specs.Tree.{Tree}
+use Rattle.model.proofs.Lists.{all-head, all-tail, parts-at}
+use Rattle.tree.specs.Bridge.{kindFor, rowFor, childOf, cells, Holds, treeAt}
 use Rattle.tree.proofs.Cells.{kind-used}
+use Rattle.tree.proofs.Unused.{used-in}
 use Rattle.tree.proofs.SoundHolds.{slot-read}
 
 -- ONE OF A LIST
@@ -26,24 +25,15 @@ at-map g [] i a b h = absurd (not-suc-le-zero h)
 at-map g (x ∷ l) zero a b h = refl
 at-map g (x ∷ l) (suc i) a b h = at-map g l i a b (le-of-suc-le-suc h)
 
-cells-at : (P : Cell → Type 0) (h : ℕ) (xs : List (Item h)) (i : ℕ) (z : Item h) → i < length xs → All P (cellsOf h xs) → All P (cells h (getD xs i z))
-cells-at P h [] i z g k = absurd (not-suc-le-zero g)
-cells-at P h (x ∷ xs) zero z g k = all-left (cells h x) (cellsOf h xs) k
-cells-at P h (x ∷ xs) (suc i) z g k = cells-at P h xs i z (le-of-suc-le-suc g) (all-right (cells h x) (cellsOf h xs) k)
-
 -- THE NODE is in use, so its slot is one of the pool's
 
 pub held-kind : (ns : List S.Node) (h s : ℕ) → Holds ns h (treeAt ns h s) → nth ns s .kind ≡ kindFor h
 held-kind ns h s k = ap (λ (t : ℕ). nth ns t .kind) (sym (slot-read ns h s)) ∙ ap (λ (n : S.Node). n .kind) (all-head k)
 
 pub held-at : (st : Settings) (W : List ℕ) (h s : ℕ) → Held st W → Holds (nodes st W) h (treeAt (nodes st W) h s) → At st W s
-held-at st W h s held k = record { held = held; slot = by (decLt s (st .nodes)) }
-  where
-    by : Dec (s < st .nodes) → s < st .nodes
-    by (yes g) = g
-    by (no g) =
-        let out : nth (nodes st W) s ≡ unused = List·getD-eq-default (nodes st W) unused (omega (arith, length-nodes st W)) in
-        absurd (kind-used h (sym (held-kind (nodes st W) h s k) ∙ ap (λ (n : S.Node). n .kind) out))
+held-at st W h s held k =
+    let used = used-in (nodes st W) s (λ z. kind-used h (sym (held-kind (nodes st W) h s k) ∙ z)) in
+    record { held = held; slot = omega (arith, used, length-nodes st W) }
 
 -- THE CHILD that a row names
 
@@ -59,6 +49,4 @@ module _ (ns : List S.Node) (h s : ℕ) (k : Holds ns (suc h) (treeAt ns (suc h)
       ∙ ap (rowFor (suc h)) (at-map kid (nth ns s .rows) i blank (kid blank) g)
 
   pub child-held : Holds ns h (treeAt ns h (childOf (getD (nth ns s .rows) i blank)))
-  child-held =
-      subst (Holds ns h) (at-map kid (nth ns s .rows) i blank (kid blank) g)
-      (cells-at (Stands ns) (suc h) (map kid (nth ns s .rows)) i (kid blank) (omega (arith, length-map (nth ns s .rows) kid)) (all-tail k))
+  child-held = parts-at (cells (suc h)) kid (nth ns s .rows) i blank g (all-tail k)

@@ -12,7 +12,7 @@ use native.Mathlib.Nat.{not-suc-le-zero, le-of-suc-le-suc}
 use lib.ListN.{length, drop, getD, length-map, drop-of-length-le}
 use lib.Seq.{drop-cons}
 use lib.Dec.{ltb, eqb}
-use borrow.Author.Tests.{lt-ltb, le-ltb, ne-eqb, ltb-true, ltb-false, eqb-true}
+use borrow.Author.Tests.{ltb-true, ltb-false, eqb-true}
 use Rattle.slots.specs.declared.Row.{Row}
 use Rattle.slots.specs.declared.Found.{Found}
 use Rattle.slots.specs.declared.Found.the-variants.{At, Before}
@@ -23,15 +23,17 @@ use Rattle.slots.specs.Search.{keyAt, pick, below, findRow, Within, Sought}
 use Rattle.slots.specs.Search as R
 use Rattle.model.specs.declared.Entry.{Entry}
 use Rattle.model.specs.declared.Settings.{Settings}
-use Rattle.model.specs.Lists.{All, none, one, Ordered, nil, cons}
+use Rattle.model.specs.Lists.{All, none, one}
 use Rattle.model.specs.Tree.{Item, Tree, entries, greatestKey}
 use Rattle.model.specs.Plain.{from, first, held}
 use Rattle.model.specs.Look.{present, found}
 use Rattle.model.specs.Sound.{Whole, Sorted}
-use Rattle.model.proofs.Lists.{all-left, all-right, all-head, all-map, ordered-left, ordered-right}
-use Rattle.model.proofs.Plain.{Under, Over}
-use Rattle.model.proofs.Trees.{flat, flat-zero, Ends, separator-ends, ends-over, ends-under}
+use Rattle.model.proofs.Lists.{all-head, all-map, all-at, ordered-left, ordered-right}
+use Rattle.model.proofs.Plain.{Under, Over, from-front, from-back, first-back}
+use Rattle.model.proofs.Trees.{flat, flat-zero, separator-ends, ends-over, ends-under}
+use Rattle.model.proofs.Readable.{separator-keys}
 use Rattle.tree.specs.Bridge.{rowFor, entryOf, childOf, Holds, treeAt}
+use Rattle.tree.proofs.Keys.{rows-ascend, entries-from}
 use Rattle.tree.proofs.SoundHolds.{slot-read}
 use Rattle.look.specs.Output.{Page, enlistAll}
 use Rattle.look.specs.Lookup.{childFor, Chosen, Grown, Leads}
@@ -39,38 +41,6 @@ use Rattle.look.proofs.Outputs.{enlist-append}
 use Rattle.look.proofs.Children.{at-map, held-at, child-held}
 
 -- THE KEYS OF ROWS
-
-row-key : (h : ℕ) (i : Item h) → rowFor h i .key ≡ greatestKey h i
-row-key zero e = refl
-row-key (suc h) n = refl
-
--- a separator is one of the keys below it
-separators-over : (st : Settings) (h k : ℕ) {xs : List (Item h)} → All (Whole st h) xs → Over k (flat h xs) → All (λ (r : Row). k < r .key) (map (rowFor h) xs)
-separators-over st h k none o = none
-separators-over st h k (one {x = x} {xs = xs} w ws) o =
-    let ends : Ends (entries h x) (greatestKey h x) = separator-ends st h x w in
-    let mine : Over k (ends .init ++ (ends .last ∷ [])) = subst (Over k) (ends .whole) (all-left (entries h x) (flat h xs) o) in
-    let last : k < ends .last .key = all-head (all-right (ends .init) (ends .last ∷ []) mine) in
-    let mine-over : k < rowFor h x .key = omega (arith, ends .key, row-key h x) in
-    one mine-over (separators-over st h k ws (all-right (entries h x) (flat h xs) o))
-
-rows-ordered : (st : Settings) (h : ℕ) {xs : List (Item h)} → All (Whole st h) xs → Sorted (flat h xs) → Ordered (λ (a b : Row). a .key < b .key) (map (rowFor h) xs)
-rows-ordered st h none s = nil
-rows-ordered st h (one {x = x} {xs = xs} w ws) s =
-    let above : All (λ (r : Row). greatestKey h x < r .key) (map (rowFor h) xs) = separators-over st h (greatestKey h x) ws (ends-over (separator-ends st h x w) s) in
-    cons {x = rowFor h x} (subst (λ (k : ℕ). All (λ (r : Row). k < r .key) (map (rowFor h) xs)) (sym (row-key h x)) above)
-    (rows-ordered st h ws (ordered-right (entries h x) (flat h xs) s))
-
-all-at : {A : Type 0} {P : A → Type 0} {xs : List A} → All P xs → (i : ℕ) (z : A) → i < length xs → P (getD xs i z)
-all-at none i z h = absurd (not-suc-le-zero h)
-all-at (one g gs) zero z h = g
-all-at (one g gs) (suc i) z h = all-at gs i z (le-of-suc-le-suc h)
-
-ordered-at : {rs : List Row} → Ordered (λ (a b : Row). a .key < b .key) rs → R.Ascending rs
-ordered-at nil i j h g = absurd (not-suc-le-zero g)
-ordered-at (cons a o) i zero h g = absurd (not-suc-le-zero h)
-ordered-at (cons a o) zero (suc j) h g = all-at a j blank (le-of-suc-le-suc g)
-ordered-at (cons a o) (suc i) (suc j) h g = ordered-at o i j (le-of-suc-le-suc h) (le-of-suc-le-suc g)
 
 module _ (st : Settings) (W : List ℕ) (h s : ℕ) (k : Grown st W h s) where
   rows-are : rowsAt st W s ≡ map (rowFor h) (treeAt (nodes st W) h s .items)
@@ -80,7 +50,7 @@ module _ (st : Settings) (W : List ℕ) (h s : ℕ) (k : Grown st W h s) where
   pub grown-sorted : R.Sorted st W s
   grown-sorted =
       let at = held-at st W h s (k .pool) (k .tree) in
-      record { held = at .held; slot = at .slot; keys = subst R.Ascending (sym rows-are) (ordered-at (rows-ordered st h (k .whole) (k .sorted))) }
+      record { held = at .held; slot = at .slot; keys = subst R.Ascending (sym rows-are) (rows-ascend h (treeAt (nodes st W) h s .items) (separator-keys st h (k .whole) (k .sorted))) }
 
   pub grown-some : h ≢ 0 → 0 < length (rowsAt st W s)
   grown-some ne = omega (arith, ap length rows-are, length-map (treeAt (nodes st W) h s .items) (rowFor h), k .some ne)
@@ -133,25 +103,11 @@ found-place key rs r f q e = ap placeOf (sym e ∙ q .is) ∙ place-found key rs
 -- A KEY IS HELD IN THAT CHILD exactly as in the whole
 
 module _ (k : ℕ) where
-  from-front : {a : List Entry} (b : List Entry) → Under k a → from k (a ++ b) ≡ from k b
-  from-front b none = refl
-  from-front b (one {x = e} h hs) = rw (lt-ltb (e .key) k h) (from-front b hs)
-
   held-front : {a : List Entry} (b : List Entry) → Under k a → held k (a ++ b) ≡ held k b
-  held-front b h = ap (first k) (from-front b h)
-
-  held-over : {b : List Entry} → Over k b → held k b ≡ O.none
-  held-over none = refl
-  held-over (one {x = e} h hs) = rw (le-ltb (e .key) k (omega arith), ne-eqb (e .key) k (λ q. omega arith)) refl
+  held-front b h = ap (first k) (from-front k b h)
 
   held-back : (a : List Entry) {b : List Entry} → Over k b → held k (a ++ b) ≡ held k a
-  held-back [] o = held-over o
-  held-back (e ∷ a) {b} o =
-      by (ltb (e .key) k) (held-back a o)
-    where
-      by : (t : Bool) → held k (a ++ b) ≡ held k a → first k (cond t (from k (a ++ b)) (e ∷ (a ++ b))) ≡ first k (cond t (from k a) (e ∷ a))
-      by true ih = ih
-      by false ih = refl
+  held-back a o = ap (first k) (from-back k a o) ∙ first-back k (from k a) o
 
   held-child : (st : Settings) (h : ℕ) (z : Tree h) {cs : List (Tree h)} → 0 < length cs → All (Whole st (suc h)) cs → Sorted (flat (suc h) cs)
       → held k (entries (suc h) (getD cs (childFor k (map (rowFor (suc h)) cs)) z)) ≡ held k (flat (suc h) cs)
@@ -190,7 +146,7 @@ module _ (st : Settings) (W : List ℕ) (key : ℕ) where
     lower i row c e =
         let here : getD kids i (kid blank) ≡ kid row = at-map kid (rowsAt st W s) i blank (kid blank) (c .inside) ∙ ap kid (sym e) in
         let inside : i < length kids = omega (arith, c .inside, length-map (rowsAt st W s) kid) in
-        let whole : Whole st (suc h) (kid row) = subst (Whole st (suc h)) here (all-at (g .whole) i (kid blank) inside) in
+        let whole : Whole st (suc h) (kid row) = subst (Whole st (suc h)) here (all-at kids i (kid blank) inside (g .whole)) in
         let place : i ≡ childFor key (map (rowFor (suc h)) kids) = c .is ∙ ap (childFor key) (rows-are st W (suc h) s g) in (
           record {
             pool = g .pool;
@@ -222,23 +178,13 @@ abbrev listFound : List Row → Found → List Entry
 listFound rs (At i) = entryOf (getD rs i blank) ∷ []
 listFound rs (Before i) = []
 
-from-below : (k : ℕ) (rs : List Row) → from k (map entryOf rs) ≡ drop (below k rs) (map entryOf rs)
-unfolding below pick
-from-below k [] = refl
-from-below k (r ∷ rs) = by (ltb (r .key) k) (from-below k rs)
-  where
-    by : (t : Bool) → from k (map entryOf rs) ≡ drop (below k rs) (map entryOf rs)
-        → cond t (from k (map entryOf rs)) (entryOf r ∷ map entryOf rs) ≡ drop (pick t (suc (below k rs)) 0) (entryOf r ∷ map entryOf rs)
-    by true ih = ih
-    by false ih = refl
-
 entry-is : (k : ℕ) (r : Row) (t : Bool) → eqb (r .key) k ≡ t → present k (cond t (O.some (record { place = r .body; size = r .size })) O.none) ≡ cond t (entryOf r ∷ []) []
 entry-is k r true e = let same : k ≡ r .key = sym (eqb-true (r .key) k e) in ap (λ (n : ℕ). record { key = n; place = r .body; size = r .size } ∷ []) same
 entry-is k r false e = refl
 
 present-found : (k : ℕ) (rs : List Row) → present k (held k (map entryOf rs)) ≡ listFound rs (findRow k rs)
 unfolding findRow pick
-present-found k rs = ap (λ (es : List Entry). present k (first k es)) (from-below k rs) ∙ by (ltb (below k rs) (length rs)) refl
+present-found k rs = ap (λ (es : List Entry). present k (first k es)) (entries-from k rs) ∙ by (ltb (below k rs) (length rs)) refl
   where
     hit : (u : Bool) → eqb (keyAt rs (below k rs)) k ≡ u
         → present k (cond u (O.some (record { place = getD rs (below k rs) blank .body; size = getD rs (below k rs) blank .size })) O.none)
@@ -247,16 +193,11 @@ present-found k rs = ap (λ (es : List Entry). present k (first k es)) (from-bel
     hit false e = refl
 
     by : (t : Bool) → ltb (below k rs) (length rs) ≡ t
-        → present k (first k (drop (below k rs) (map entryOf rs))) ≡ listFound rs (pick t (pick (eqb (keyAt rs (below k rs)) k) (At (below k rs)) (Before (below k rs))) (Before (below k rs)))
+        → present k (first k (map entryOf (drop (below k rs) rs))) ≡ listFound rs (pick t (pick (eqb (keyAt rs (below k rs)) k) (At (below k rs)) (Before (below k rs))) (Before (below k rs)))
     by true e =
-        let inside : below k rs < length rs = ltb-true (below k rs) (length rs) e in
-        let long : below k rs < length (map entryOf rs) = omega (arith, length-map rs entryOf) in
-        ap (λ (es : List Entry). present k (first k es)) (drop-cons (map entryOf rs) (below k rs) (entryOf blank) long)
-        ∙ ap (λ (x : Entry). present k (first k (x ∷ drop (suc (below k rs)) (map entryOf rs)))) (at-map entryOf rs (below k rs) blank (entryOf blank) inside)
+        ap (λ (l : List Row). present k (first k (map entryOf l))) (drop-cons rs (below k rs) blank (ltb-true (below k rs) (length rs) e))
         ∙ hit (eqb (keyAt rs (below k rs)) k) refl
-    by false e =
-        let out : length (map entryOf rs) ≤ below k rs = omega (arith, ltb-false (below k rs) (length rs) e, length-map rs entryOf) in
-        ap (λ (es : List Entry). present k (first k es)) (drop-of-length-le (map entryOf rs) out)
+    by false e = ap (λ (l : List Row). present k (first k (map entryOf l))) (drop-of-length-le rs (ltb-false (below k rs) (length rs) e))
 
 module _ (st : Settings) (W : List ℕ) (height key leaf : ℕ) (lead : Leads st W height key 0 leaf) where
   pub found-listed : (r f : Found) → Sought (rowsAt st W leaf) key r → r ≡ f

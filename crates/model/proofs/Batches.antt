@@ -21,7 +21,7 @@ use Rattle.model.proofs.Lists.{all-left, all-right, all-head, times-app
 use Rattle.model.proofs.Plain.{list-sorted}
 use Rattle.model.proofs.Trees.{flat, flat-append, slotsIn, slots-append}
 use Rattle.model.proofs.Settles.{OverFull, Says, times-release, length-others, others-up, release-up}
-use Rattle.model.proofs.Changes.{Rising, Removing, Did, did-none, did-then, did-left, did-rising, Ready, Owes, Given, change-law, interior-strolled}
+use Rattle.model.proofs.Changes.{Rising, Removing, Did, did-none, did-then, did-left, did-rising, Ready, stocked-ready, Enough, Owes, Given, change-law, interior-strolled}
 
 -- THE ROOT'S RESULT
 
@@ -95,15 +95,11 @@ module _ (st : Settings) (lim : InLimits st) where
   same-ready zero n t g e = omega (arith, g, e)
   same-ready (suc h) n t g e = record { some = omega (arith, g .some, e); few = omega (arith, g .few, e) }
 
-  changed-ready : (h : ℕ) (t : Tree h) → Stocked st t → Ready st h t
-  changed-ready zero t g = g .few
-  changed-ready (suc h) t g = g
-
   pub root-settled : (r : Result) (h : ℕ) (n t : Tree h) (unused : List ℕ) → All (Whole st h) (t .items) → Sorted (flat h (t .items)) → Ready st h n
       → ((isChange r ≡ false → Stocked st n) → Says st r t) → (isChange r ≡ false → len t ≡ len n) → RootSettled r h t unused (settleRoot r h t unused)
   root-settled Unchanged h n t unused w s g says kept = stays Unchanged h t unused w s (same-ready h n t g (kept refl))
-  root-settled Changed h n t unused w s g says kept = stays Changed h t unused w s (changed-ready h t (says (λ q. absurd (true≢false q))))
-  root-settled Absorb h n t unused w s g says kept = stays Absorb h t unused w s (changed-ready h t (says (λ q. absurd (true≢false q))))
+  root-settled Changed h n t unused w s g says kept = stays Changed h t unused w s (stocked-ready st h t (says (λ q. absurd (true≢false q))))
+  root-settled Absorb h n t unused w s g says kept = stays Absorb h t unused w s (stocked-ready st h t (says (λ q. absurd (true≢false q))))
   root-settled Split h n t unused w s g says kept =
       let o : OverFull st t = says (λ q. absurd (true≢false q)) in
       record {
@@ -178,71 +174,71 @@ no-headroom : (y : Index) (ts : List Task) → y .height ≤ 7 → ts ≡ [] →
 no-headroom y ts le e = inr (le, no-tasks e)
 
 module _ (st : Settings) (lim : InLimits st) where
-  -- ONE CALL of the root
+  -- ONE CALL of the root: what it is handed, what it makes of the root, the index once its result is settled, and what it owes
   module _ (x : Index) (t : Task) (ts : List Task) (c : Counts) (f : Fine st x) (rising : Rising (t ∷ ts)) (short : suc (length ts) ≤ st .order)
       (low : All (λ u. u .key ≤ noCeiling) (t ∷ ts)) where
-    run : Run
-    run = record { unused = x .unused; counts = c }
+    unfoldable pub calling : Run
+    calling = record { unused = x .unused; counts = c }
 
-    o : Outcome (Tree (x .height))
-    o = change st (x .height) noCeiling (x .root) (t ∷ ts) run
+    unfoldable pub called : Outcome (Tree (x .height))
+    called = change st (x .height) noCeiling (x .root) (t ∷ ts) calling
 
-    y : Index
-    y = settleRoot (o .result) (x .height) (o .node) (o .run .unused)
+    unfoldable pub after-call : Index
+    after-call = settleRoot (called .result) (x .height) (called .node) (called .run .unused)
 
-    given : Given st (x .height) (x .root) (t ∷ ts)
-    given = record { whole = f .whole; few = ready-few st (x .height) (x .root) (f .ready); sorted = f .sorted; rising = rising; short = short }
+    pub call-given : Given st (x .height) (x .root) (t ∷ ts)
+    call-given = record { whole = f .whole; few = ready-few st (x .height) (x .root) (f .ready); sorted = f .sorted; rising = rising; short = short }
 
-    w : Owes st (x .height) noCeiling (x .root) (t ∷ ts) run o
-    unfolding o
-    w = change-law st lim (x .height) noCeiling (x .root) (t ∷ ts) run given
+    pub call-owes : Owes st (x .height) noCeiling (x .root) (t ∷ ts) calling called
+    unfolding called
+    call-owes = change-law st lim (x .height) noCeiling (x .root) (t ∷ ts) calling call-given
 
-    k : RootSettled st lim (o .result) (x .height) (o .node) (o .run .unused) y
-    unfolding y
-    k =
-        root-settled st lim (o .result) (x .height) (x .root) (o .node) (o .run .unused) (w .whole)
-        (rw (w .did .list) (list-sorted (w .did .taken) (f .sorted))) (f .ready) (w .says) (w .kept)
+    pub call-settled : RootSettled st lim (called .result) (x .height) (called .node) (called .run .unused) after-call
+    unfolding after-call
+    call-settled =
+        root-settled st lim (called .result) (x .height) (x .root) (called .node) (called .run .unused) (call-owes .whole)
+        (rw (call-owes .did .list) (list-sorted (call-owes .did .taken) (f .sorted))) (f .ready) (call-owes .says) (call-owes .kept)
 
-    fewer : length (o .tasks) < suc (length ts)
-    fewer = w .moves (f .ready) (all-head low)
+    pub call-fewer : length (called .tasks) < suc (length ts)
+    call-fewer = call-owes .moves (f .ready) (all-head low)
 
     -- an interior root's walk ends with no task, or no child
     ends : (h : ℕ) (n : Tree h) → Given st h n (t ∷ ts) → 0 < h
-        → (change st h noCeiling n (t ∷ ts) run .tasks ≡ []) ⊎ (len (change st h noCeiling n (t ∷ ts) run .node) ≡ 0)
+        → (change st h noCeiling n (t ∷ ts) calling .tasks ≡ []) ⊎ (len (change st h noCeiling n (t ∷ ts) calling .node) ≡ 0)
     ends zero n g pos = absurd (omega arith)
     ends (suc h) n g pos =
-        interior-strolled st lim h (change st h) (change-law st lim h) noCeiling n (t ∷ ts) run g .over (le-refl _) (inr refl) low
+        interior-strolled st lim h (change st h) (change-law st lim h) noCeiling n (t ∷ ts) calling g .over (le-refl _) (inr refl) low
 
-    split-over : o .result ≡ Split → OverFull st (o .node)
-    split-over e = rw e at (w .says (λ q. absurd (true≢false (sym (ap isChange e) ∙ q))))
+    split-over : called .result ≡ Split → OverFull st (called .node)
+    split-over e = rw e at (call-owes .says (λ q. absurd (true≢false (sym (ap isChange e) ∙ q))))
 
     -- so an interior root that is split has taken all
-    split-all : o .result ≡ Split → 0 < x .height → o .tasks ≡ []
-    unfolding o
-    split-all e pos = by (ends (x .height) (x .root) given pos)
+    split-all : called .result ≡ Split → 0 < x .height → called .tasks ≡ []
+    unfolding called
+    split-all e pos = by (ends (x .height) (x .root) call-given pos)
       where
-        by : (o .tasks ≡ []) ⊎ (len (o .node) ≡ 0) → o .tasks ≡ []
+        by : (called .tasks ≡ []) ⊎ (len (called .node) ≡ 0) → called .tasks ≡ []
         by (inl q) = q
         by (inr q) = absurd (omega (arith, split-over e .over, q))
 
-    no-split : Removing (t ∷ ts) → o .result ≡ Split → ⊥
-    no-split rem e = omega (arith, split-over e .over, w .shrinks rem, given .few)
+    no-split : Removing (t ∷ ts) → called .result ≡ Split → ⊥
+    no-split rem e = omega (arith, split-over e .over, call-owes .shrinks rem, call-given .few)
 
-    spent : Spent (x .height) (suc (length ts)) (length (o .tasks)) (length (x .unused)) (length (o .run .unused))
-    unfolding run
-    spent = w .spent
+    spent : Spent (x .height) (suc (length ts)) (length (called .tasks)) (length (x .unused)) (length (called .run .unused))
+    unfolding calling
+    spent = call-owes .spent
 
-    call-enough : Room x (t ∷ ts) → (suc (length ts) * x .height ≤ length (x .unused)) ⊎ Removing (t ∷ ts)
+    pub call-enough : Room x (t ∷ ts) → Enough (x .height) (t ∷ ts) (x .unused)
     call-enough (inl room) = inl (for-call (x .height) (suc (length ts)) (length (x .unused)) room)
     call-enough (inr rem) = inr rem
 
-    call-two : Room x (t ∷ ts) → o .result ≡ Split → 2 ≤ length (o .run .unused)
-    call-two (inl room) e = two-left (x .height) (suc (length ts)) (length (o .tasks)) (length (x .unused)) (length (o .run .unused)) fewer spent room
+    pub call-two : Room x (t ∷ ts) → called .result ≡ Split → 2 ≤ length (called .run .unused)
+    call-two (inl room) e = two-left (x .height) (suc (length ts)) (length (called .tasks)) (length (x .unused)) (length (called .run .unused)) call-fewer spent room
     call-two (inr rem) e = absurd (no-split rem e)
 
-    call-slots : Room x (t ∷ ts) → (s : ℕ) → times s (slotsOf y) + times s (y .unused) ≡ times s (slotsOf x) + times s (x .unused)
-    unfolding run
-    call-slots room s = k .slots (call-two room) s ∙ w .slots (call-enough room) s
+    pub call-slots : Room x (t ∷ ts) → (s : ℕ) → times s (slotsOf after-call) + times s (after-call .unused) ≡ times s (slotsOf x) + times s (x .unused)
+    unfolding calling
+    call-slots room s = call-settled .slots (call-two room) s ∙ call-owes .slots (call-enough room) s
 
     -- the room that is left, by the result
     room-left : (r : Result) (h : ℕ) (n : Tree h) (unused : List ℕ) (left : List Task) → length left < suc (length ts)
@@ -257,10 +253,10 @@ module _ (st : Settings) (lim : InLimits st) where
         (omega (arith, length-others unused, length-others (others unused))))
     room-left Split (suc h) n unused left lt sp room all = inr (no-tasks (all refl (omega arith)))
 
-    call-room : Room x (t ∷ ts) → Room y (o .tasks)
-    unfolding y
-    call-room (inl room) = room-left (o .result) (x .height) (o .node) (o .run .unused) (o .tasks) fewer spent room split-all
-    call-room (inr rem) = inr (did-left (w .did) rem)
+    pub call-room : Room x (t ∷ ts) → Room after-call (called .tasks)
+    unfolding after-call
+    call-room (inl room) = room-left (called .result) (x .height) (called .node) (called .run .unused) (called .tasks) call-fewer spent room split-all
+    call-room (inr rem) = inr (did-left (call-owes .did) rem)
 
     headroom-left : (r : Result) (h : ℕ) (n : Tree h) (unused : List ℕ) (left : List Task) → h ≤ 6 → (r ≡ Split → 0 < h → left ≡ []) → Headroom (settleRoot r h n unused) left
     headroom-left Unchanged h n unused left le all = inl le
@@ -270,10 +266,10 @@ module _ (st : Settings) (lim : InLimits st) where
     headroom-left Split zero n unused left le all = inl (omega arith)
     headroom-left Split (suc h) n unused left le all = inr (omega arith, no-tasks (all refl (omega arith)))
 
-    call-headroom : Headroom x (t ∷ ts) → Headroom y (o .tasks)
-    unfolding y
-    call-headroom (inl le) = headroom-left (o .result) (x .height) (o .node) (o .run .unused) (o .tasks) le split-all
-    call-headroom (inr (le, rem)) = inr (omega (arith, k .lower (no-split rem) .0), did-left (w .did) rem)
+    call-headroom : Headroom x (t ∷ ts) → Headroom after-call (called .tasks)
+    unfolding after-call
+    call-headroom (inl le) = headroom-left (called .result) (x .height) (called .node) (called .run .unused) (called .tasks) le split-all
+    call-headroom (inr (le, rem)) = inr (omega (arith, call-settled .lower (no-split rem) .0), did-left (call-owes .did) rem)
 
   -- ALL CALLS
 
@@ -308,15 +304,15 @@ module _ (st : Settings) (lim : InLimits st) where
 
   ran : (calls : ℕ) (x : Index) (ts : List Task) (c : Counts) → length ts ≤ calls → length ts ≤ st .order → Fine st x → Rising ts → All (λ t. t .key ≤ noCeiling) ts
       → Ran x ts c (changeRoot st calls x ts c)
-  unfolding run o y
+  unfolding calling called after-call
   ran zero x [] c enough short f rising low = ran-none x c f
   ran zero x (t ∷ ts) c enough short f rising low = absurd (omega arith)
   ran (suc calls) x [] c enough short f rising low = ran-none x c f
   ran (suc calls) x (t ∷ ts) c enough short f rising low =
-      let owes = w x t ts c f rising short low in
-      let root = k x t ts c f rising short low in
-      let less = fewer x t ts c f rising short low in
-      let next = ran calls (y x t ts c f rising short low) (o x t ts c f rising short low .tasks) (o x t ts c f rising short low .run .counts)
+      let owes = call-owes x t ts c f rising short low in
+      let root = call-settled x t ts c f rising short low in
+      let less = call-fewer x t ts c f rising short low in
+      let next = ran calls (after-call x t ts c f rising short low) (called x t ts c f rising short low .tasks) (called x t ts c f rising short low .run .counts)
       (omega (arith, less)) (omega (arith, less)) (root .fine) (did-rising (owes .did) rising) (did-left (owes .did) low) in
       record {
         did = did-then noCeiling (owes .did) (rw (root .list) at (next .did));

@@ -92,6 +92,11 @@ stocked-ready st (suc h) n g = g
 abbrev pub Enough : ℕ → List Task → List ℕ → Type 0
 Enough h ts unused = (length ts * h ≤ length unused) ⊎ Removing ts
 
+-- enough for a node is enough for its children
+pub child-enough : (h : ℕ) (ts : List Task) (unused : List ℕ) → Enough (suc h) ts unused → Enough h ts unused
+child-enough h ts unused (inl room) = inl (omega (arith, mul-suc (length ts) h))
+child-enough h ts unused (inr rem) = inr rem
+
 pub record Owes (st : Settings) (h ceiling : ℕ) (n : Tree h) (ts : List Task) (run : Run) (o : Outcome (Tree h)) : Type 0 where
   -- the list and the nodes
   pub did : Did ceiling ts (o .tasks) (flat h (n .items)) (flat h (o .node .items)) (run .counts) (o .run .counts)
@@ -387,7 +392,8 @@ module _ (st : Settings) (h : ℕ) where
           sorted = rw (turn-did .list) (list-sorted (turn-did .taken) (r .sorted));
         }
 
-    ceiling-due : t .key ≤ ceilingFor (greatestKey (suc h) (s .child)) (t .key) ceiling
+    -- the next key does not exceed the ceiling handed down to its child
+    pub ceiling-due : t .key ≤ ceilingFor (greatestKey (suc h) (s .child)) (t .key) ceiling
     ceiling-due = by-test (λ (n : ℕ). t .key ≤ n) (ltb (greatestKey (suc h) (s .child)) (t .key)) (λ e. le-refl (t .key))
         (λ e. omega (arith, ltb-false (greatestKey (suc h) (s .child)) (t .key) e))
 
@@ -408,11 +414,8 @@ module _ (st : Settings) (h : ℕ) where
     turn-spent =
         omega (arith, turn-fewer, w .spent, mul-suc (suc (length ts)) h, mul-suc (length (o .tasks)) h, law .taken, takes-one (o .result))
 
-    child-enough : Enough (suc h) (t ∷ ts) (run .unused) → Enough h (t ∷ ts) (run .unused)
-    child-enough (inl room) = inl (omega (arith, mul-suc (suc (length ts)) h))
-    child-enough (inr rem) = inr rem
-
-    one-left : Enough (suc h) (t ∷ ts) (run .unused) → takes (o .result) ≤ length (o .run .unused)
+    -- a slot is left for a split of the child
+    pub one-left : Enough (suc h) (t ∷ ts) (run .unused) → takes (o .result) ≤ length (o .run .unused)
     one-left (inl room) = omega (arith, takes-one (o .result), turn-fewer, w .spent, room, mul-suc (suc (length ts)) h)
     one-left (inr rem) = omega (arith, takes-nothing rem)
 
@@ -428,7 +431,7 @@ module _ (st : Settings) (h : ℕ) where
           arith,
           law .slots (one-left enough) y,
           x .own-same y,
-          w .slots (child-enough enough) y,
+          w .slots (child-enough h (t ∷ ts) (run .unused) enough) y,
           ap (hit y) (w .slot),
           slots-three y h (back (s .before)) (o .node .items) (joined (s .after)),
           slots-three y h (back (s .before)) (s .child .items) (joined (s .after)),

@@ -1,11 +1,14 @@
 -- Laws of tests, of `All` and `Ordered`, and of joining, keeping and counting: they hold of any element. Assumes nothing.
-use mathlib.Core.Path.{_≡_, refl, sym, ap, _∙_}
+use mathlib.Core.Path.{_≡_, refl, sym, ap, _∙_, subst}
 use mathlib.Core.Logic.{_⊎_, inl, inr}
 use mathlib.Core.Bool.{Bool, true, false, cond, _&&_, _||_, true≢false}
-use mathlib.Core.List.{List, [], _∷_, _++_, reverse, reverseAux, reverse-cons, append-assoc, append-nil}
-use Prim.Native.Nat.{ℕ, _+_}
+use mathlib.Core.List.{List, [], _∷_, _++_, map, reverse, reverseAux, reverse-cons, append-assoc, append-nil}
+use Prim.Native.Nat.{ℕ, zero, suc, _+_, _≤_, _<_}
 use native.Mathlib.Omega.{arith}
-use lib.ListN.{take, drop, take-append-drop}
+use native.Mathlib.Numerals.{add-one}
+use native.Mathlib.Nat.{not-suc-le-zero, le-of-suc-le-suc}
+use lib.ListN.{length, take, drop, getD, take-append-drop}
+use lib.Seq.{take-suc, take-all}
 use borrow.Author.Tests.{eq-eqb, ne-eqb}
 use Rattle.model.specs.Lists.{concat, keep, hit, times, All, none, one, Ordered, nil, cons}
 
@@ -62,6 +65,11 @@ pub all-every : {A : Type 0} {P : A → Type 0} (xs : List A) → ((x : A) → P
 all-every [] f = none
 all-every (x ∷ xs) f = one (f x) (all-every xs f)
 
+-- P holds of f of each
+pub all-of : {A B : Type 0} {P : B → Type 0} (f : A → B) {xs : List A} → All (λ x. P (f x)) xs → All P (map f xs)
+all-of f none = none
+all-of f (one g gs) = one g (all-of f gs)
+
 -- each of the one stands so to each of the other, seen from the other
 pub all-swap : {A B : Type 0} {R : A → B → Type 0} {xs : List A} {ys : List B} → All (λ x. All (R x) ys) xs → All (λ y. All (λ x. R x y) xs) ys
 all-swap {ys = ys} none = all-every ys (λ y. none)
@@ -83,6 +91,26 @@ all-take n {xs} h = all-left (take n xs) (drop n xs) (rw take-append-drop h)
 pub all-drop : {A : Type 0} {P : A → Type 0} (n : ℕ) {xs : List A} → All P xs → All P (drop n xs)
 all-drop n {xs} h = all-right (take n xs) (drop n xs) (rw take-append-drop h)
 
+-- what holds of each holds of the one at i; of the first i + 1 if of the first i and of that; and of all if of as many as there are
+module _ {A : Type 0} {P : A → Type 0} where
+  pub all-at : (xs : List A) (i : ℕ) (z : A) → i < length xs → All P xs → P (getD xs i z)
+  all-at [] i z lt none = absurd (not-suc-le-zero lt)
+  all-at (x ∷ xs) zero z lt (one g gs) = g
+  all-at (x ∷ xs) (suc i) z lt (one g gs) = all-at xs i z (le-of-suc-le-suc lt) gs
+
+  pub all-more : (xs : List A) (i : ℕ) (z : A) → i < length xs → All P (take i xs) → P (getD xs i z) → All P (take (i + 1) xs)
+  all-more xs i z lt h g = rw (add-one i, take-suc xs i z lt) (all-append h (one g none))
+
+  pub all-past : (xs : List A) (i : ℕ) → length xs ≤ i → All P (take i xs) → All P xs
+  all-past xs i le h = subst (All P) (take-all i xs le) h
+
+-- what holds of each element of some lists joined holds of each of one of them
+pub parts-at : {A B C : Type 0} {P : C → Type 0} (f : B → List C) (g : A → B) (xs : List A) (i : ℕ) (z : A) → i < length xs
+    → All P (concat (map f (map g xs))) → All P (f (g (getD xs i z)))
+parts-at f g [] i z lt h = absurd (not-suc-le-zero lt)
+parts-at f g (x ∷ xs) zero z lt h = all-left (f (g x)) (concat (map f (map g xs))) h
+parts-at f g (x ∷ xs) (suc i) z lt h = parts-at f g xs i z (le-of-suc-le-suc lt) (all-right (f (g x)) (concat (map f (map g xs))) h)
+
 -- ORDER
 
 module _ {A : Type 0} {R : A → A → Type 0} where
@@ -103,6 +131,11 @@ module _ {A : Type 0} {R : A → A → Type 0} where
   ordered-apart (x ∷ a) b (cons h s) = one (all-right a b h) (ordered-apart a b s)
 
 -- JOINING AND KEEPING
+
+-- f of each of two lists, joined
+pub parts-append : {A B : Type 0} (f : A → List B) (xs ys : List A) → concat (map f (xs ++ ys)) ≡ concat (map f xs) ++ concat (map f ys)
+parts-append f [] ys = refl
+parts-append f (x ∷ xs) ys = ap (f x ++_) (parts-append f xs ys) ∙ sym (append-assoc (f x) (concat (map f xs)) (concat (map f ys)))
 
 module _ {A : Type 0} where
   pub concat-append : (a b : List (List A)) → concat (a ++ b) ≡ concat a ++ concat b

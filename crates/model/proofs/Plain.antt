@@ -34,7 +34,7 @@ module _ (k : ℕ) where
   below-front b none = refl
   below-front b (one {x = e} h hs) = rw (lt-ltb (e .key) k h) (ap (e ∷_) (below-front b hs))
 
-  from-front : {a : List Entry} (b : List Entry) → Under k a → from k (a ++ b) ≡ from k b
+  pub from-front : {a : List Entry} (b : List Entry) → Under k a → from k (a ++ b) ≡ from k b
   from-front b none = refl
   from-front b (one {x = e} h hs) = rw (lt-ltb (e .key) k h) (from-front b hs)
 
@@ -62,11 +62,11 @@ module _ (k : ℕ) where
   pick-append true x y c = refl
   pick-append false x y c = refl
 
-  from-back : (b : List Entry) {c : List Entry} → Over k c → from k (b ++ c) ≡ from k b ++ c
+  pub from-back : (b : List Entry) {c : List Entry} → Over k c → from k (b ++ c) ≡ from k b ++ c
   from-back [] h = over-from h
   from-back (e ∷ b) {c} h = ap (λ (r : List Entry). cond (ltb (e .key) k) r (e ∷ (b ++ c))) (from-back b h) ∙ pick-append (ltb (e .key) k) (from k b) (e ∷ b) c
 
-  first-back : (b : List Entry) {c : List Entry} → Over k c → first k (b ++ c) ≡ first k b
+  pub first-back : (b : List Entry) {c : List Entry} → Over k c → first k (b ++ c) ≡ first k b
   first-back [] h = over-first h
   first-back (e ∷ b) h = refl
 
@@ -303,6 +303,10 @@ parts-long t es =
 
 pub step-long : (t : Task) (es : List Entry) → length (step t es) ≤ suc (length es)
 step-long t es = omega (arith, parts-long t es, under-long (t .key) (held (t .key) es) (effectOn t es))
+
+pub list-long : (ts : List Task) (es : List Entry) → length (plainList ts es) ≤ length es + length ts
+list-long [] es = omega arith
+list-long (t ∷ ts) es = omega (arith, list-long ts (step t es), step-long t es)
 
 removed : (k : ℕ) (o : Option Reference) → under k o (effect (always Do.Remove) o) ≡ []
 removed k O.none = refl

@@ -3,7 +3,7 @@
 use mathlib.Core.Path.{_≡_, refl, ap, _∙_}
 use mathlib.Core.Bool.{true}
 use mathlib.Core.List.{List, [], _∷_, map}
-use Prim.Native.Nat.{ℕ, zero, suc, _+_, _*_, _^_, _≤_, _<_}
+use Prim.Native.Nat.{ℕ, zero, suc, _+_, _^_, _≤_, _<_}
 use native.Mathlib.Omega.{arith}
 use native.Mathlib.Nat.{le-trans, mul-le-mul}
 use lib.ListN.{length, length-append, length-map}
@@ -14,10 +14,10 @@ use Rattle.model.specs.declared.Settings.{Settings}
 use Rattle.model.specs.Lists.{All, none, one, Ordered, nil, cons}
 use Rattle.model.specs.Tree.{Item, Tree, len, entries, slots, slotsOf, greatestKey, total}
 use Rattle.model.specs.Frame.{Frame, leaf, interior, keysOf, nodesIn, branches, inTurn, framesFrom, rising, entriesRefusal}
-use Rattle.model.specs.Sound.{InLimits, Whole, Rooted, Sorted, Fits, BranchFits, FrameFits}
+use Rattle.model.specs.Sound.{InLimits, Whole, Sorted, Fits, BranchFits, FrameFits}
 use Rattle.model.specs.Demands.{FramesRead}
-use Rattle.model.proofs.Lists.{all-append, all-left, all-right, all-map, all-head, ordered-left, ordered-right}
-use Rattle.model.proofs.Trees.{flat, flat-zero, slotsIn, Ends, separator-ends, ends-over, listTotals, total-list, totals-count, entries-few, once-count}
+use Rattle.model.proofs.Lists.{all-append, all-left, all-right, all-map, all-of, all-head, all-tail, ordered-left, ordered-right}
+use Rattle.model.proofs.Trees.{flat, flat-zero, slotsIn, Ends, separator-ends, ends-over, listTotals, total-list, totals-count, sizes-few, root-few, entries-few, once-count}
 use Rattle.model.proofs.Frames.{read-written}
 
 -- KEYS
@@ -30,16 +30,12 @@ ordered-rising (cons {x = j} h (cons {x = k} g s)) = rw (lt-ltb j k (all-head h)
 not-refused : (ks : List ℕ) → length ks ≤ 32 → Ordered (λ j k. j < k) ks → entriesRefusal ks ≡ 0
 not-refused ks few s = rw (le-ltb 32 (length ks) few, ordered-rising s)
 
-all-of : {A : Type 0} {P : ℕ → Type 0} (f : A → ℕ) {xs : List A} → All (λ x. P (f x)) xs → All P (map f xs)
-all-of f none = none
-all-of f (one g gs) = one g (all-of f gs)
-
-entry-keys : {es : List Entry} → Sorted es → Ordered (λ j k. j < k) (map (λ e. e .key) es)
+pub entry-keys : {es : List Entry} → Sorted es → Ordered (λ j k. j < k) (map (λ e. e .key) es)
 entry-keys nil = nil
 entry-keys (cons h s) = cons (all-of (λ e. e .key) h) (entry-keys s)
 
 -- what holds of every key below an item holds of its separator
-separator-has : (st : Settings) (h : ℕ) (P : ℕ → Type 0) (i : Item h) → Whole st h i → All (λ e. P (e .key)) (entries h i) → P (greatestKey h i)
+pub separator-has : (st : Settings) (h : ℕ) (P : ℕ → Type 0) (i : Item h) → Whole st h i → All (λ e. P (e .key)) (entries h i) → P (greatestKey h i)
 separator-has st h P i w g =
     let e : Ends (entries h i) (greatestKey h i) = separator-ends st h i w in
     rw (e .key) at (all-head (all-right (e .init) (e .last ∷ []) (rw (e .whole) at g)))
@@ -49,7 +45,8 @@ separators-have st h P none g = none
 separators-have st h P (one {x = c} {xs = cs} w ws) g =
     one (separator-has st h P c w (all-left (entries h c) (flat h cs) g)) (separators-have st h P ws (all-right (entries h c) (flat h cs) g))
 
-separator-keys : (st : Settings) (h : ℕ) {cs : List (Item h)} → All (Whole st h) cs → Sorted (flat h cs) → Ordered (λ j k. j < k) (map (greatestKey h) cs)
+-- so separators ascend
+pub separator-keys : (st : Settings) (h : ℕ) {cs : List (Item h)} → All (Whole st h) cs → Sorted (flat h cs) → Ordered (λ j k. j < k) (map (greatestKey h) cs)
 separator-keys st h none s = nil
 separator-keys st h (one {x = c} {xs = cs} w ws) s =
     cons (all-of (greatestKey h) (separators-have st h (λ k. greatestKey h c < k) ws (ends-over (separator-ends st h c w) s)))
@@ -64,10 +61,6 @@ branch-count h i [] = refl
 branch-count h i (c ∷ cs) = ap suc (branch-count h (i + nodesIn h c) cs)
 
 -- NUMBERS
-
-sizes-few : {es : List Entry} → All Fits es → listTotals es .size ≤ length es * 4294967296
-sizes-few none = omega arith
-sizes-few (one {x = e} f fs) = omega (arith, f .size, sizes-few fs)
 
 module _ (st : Settings) (lim : InLimits st) where
   -- a node and what is below it has at most 2 ^ 19 entries
@@ -115,14 +108,11 @@ module _ (st : Settings) (lim : InLimits st) where
   rest-part : (h i : ℕ) (c : Item h) (cs : List (Item h)) → Part h i (c ∷ cs) → Part h (i + nodesIn h c) cs
   rest-part h i c cs p =
       record {
-        whole = tail (p .whole);
+        whole = all-tail (p .whole);
         sorted = ordered-right (entries h c) (flat h cs) (p .sorted);
         fit = all-right (entries h c) (flat h cs) (p .fit);
         nodes = omega (arith, p .nodes, length-append (slots h c) (slotsIn h cs));
       }
-    where
-      tail : All (Whole st h) (c ∷ cs) → All (Whole st h) cs
-      tail (one w ws) = ws
 
   siblings : (h : ℕ) → ((i : ℕ) (n : Tree h) → len n ≤ st .order → Part h (i + 1) (n .items) → All Readable (framesFrom h i n))
       → (i : ℕ) (cs : List (Tree h)) → Part (suc h) i cs → All Readable (inTurn (suc h) (framesFrom h) i cs)
@@ -146,10 +136,6 @@ module _ (st : Settings) (lim : InLimits st) where
         ap entriesRefusal keys ∙ not-refused (map (greatestKey (suc h)) (n .items)) few-keys (separator-keys st (suc h) (p .whole) (p .sorted)),
       )
       (siblings h (frames-readable h) (i + 1) (n .items) p)
-
-root-few : (st : Settings) (h : ℕ) (n : Tree h) → Rooted st h n → len n ≤ st .order
-root-few st zero n r = r
-root-few st (suc h) n r = r .1
 
 pub frames-read : FramesRead
 frames-read st x s =

@@ -137,7 +137,7 @@ module _ (st : Settings) {X : Type 0} where
     on-twice : (c n : Node X) → len c ≤ 2 * st .order → len (shareOn st c n .lower) ≤ 2 * st .order
     on-twice c n twice = simp length-take (omega arith)
 
-    on-stocked : (c n : Node X) → st .order < len c → Stocked st n → Stocked st (shareOn st c n .upper)
+    pub on-stocked : (c n : Node X) → st .order < len c → Stocked st n → Stocked st (shareOn st c n .upper)
     on-stocked c n over h = record { some = simp (length-append, length-drop) (omega arith); few = simp (length-append, length-drop) (omega arith) }
 
     back-some : (p c : Node X) → st .order < len c → 0 < len (shareBack st p c .upper)
@@ -146,7 +146,7 @@ module _ (st : Settings) {X : Type 0} where
     back-twice : (p c : Node X) → len c ≤ 2 * st .order → len (shareBack st p c .upper) ≤ 2 * st .order
     back-twice p c twice = simp length-drop (omega arith)
 
-    back-stocked : (p c : Node X) → Stocked st p → Stocked st (shareBack st p c .lower)
+    pub back-stocked : (p c : Node X) → Stocked st p → Stocked st (shareBack st p c .lower)
     back-stocked p c h = record { some = simp (length-append, length-take) (omega arith); few = simp (length-append, length-take) (omega arith) }
 
     next-remade : (c : Node X) {after : List (Node X)} (unused : List ℕ) → 0 < len c → len c ≤ 2 * st .order → All (Stocked st) after

@@ -15,8 +15,8 @@ use Rattle.model.specs.declared.Totals.{Totals}
 use Rattle.model.specs.declared.Settings.{Settings}
 use Rattle.model.specs.Lists.{concat, hit, times, All, none, one}
 use Rattle.model.specs.Tree.{Node, Item, Tree, len, entries, slots, greatestKey, lastOf, total, isLive, adds, plus, sumOf, noTotals}
-use Rattle.model.specs.Sound.{Whole, Sorted, Once}
-use Rattle.model.proofs.Lists.{all-append, all-right, all-map, ordered-apart, times-append, hit-same, hit-other}
+use Rattle.model.specs.Sound.{Whole, Rooted, Sorted, Fits, Once}
+use Rattle.model.proofs.Lists.{all-append, all-right, all-map, ordered-apart, parts-append, times-append, hit-same, hit-other}
 use Rattle.model.proofs.Plain.{Under, Over}
 
 -- ENTRIES OF ITEMS SIDE BY SIDE
@@ -25,8 +25,7 @@ abbrev pub flat : (h : ℕ) → List (Item h) → List Entry
 flat h xs = concat (map (entries h) xs)
 
 pub flat-append : (h : ℕ) (xs ys : List (Item h)) → flat h (xs ++ ys) ≡ flat h xs ++ flat h ys
-flat-append h [] ys = refl
-flat-append h (x ∷ xs) ys = ap (entries h x ++_) (flat-append h xs ys) ∙ sym (append-assoc (entries h x) (flat h xs) (flat h ys))
+flat-append h xs ys = parts-append (entries h) xs ys
 
 pub flat-three : (h : ℕ) (a b c : List (Item h)) → flat h (a ++ (b ++ c)) ≡ flat h a ++ (flat h b ++ flat h c)
 flat-three h a b c = flat-append h a (b ++ c) ∙ ap (flat h a ++_) (flat-append h b c)
@@ -40,8 +39,7 @@ abbrev pub joined : {X : Type 0} → List (Node X) → List X
 joined ns = concat (map (λ n. n .items) ns)
 
 pub joined-append : {X : Type 0} (xs ys : List (Node X)) → joined (xs ++ ys) ≡ joined xs ++ joined ys
-joined-append [] ys = refl
-joined-append (n ∷ xs) ys = ap (n .items ++_) (joined-append xs ys) ∙ sym (append-assoc (n .items) (joined xs) (joined ys))
+joined-append xs ys = parts-append (λ n. n .items) xs ys
 
 pub flat-joined : (h : ℕ) (ns : List (Node (Item h))) → flat (suc h) ns ≡ flat h (joined ns)
 flat-joined h [] = refl
@@ -104,19 +102,19 @@ ends-under {es} {k} {m} e s h =
 
 -- TOTALS ARE THOSE OF THE LIST
 
-plus-zero : (t : Totals) → plus t noTotals ≡ t
+pub plus-zero : (t : Totals) → plus t noTotals ≡ t
 plus-zero t = same (omega arith) (omega arith) (omega arith)
   where
     same : t .live + 0 ≡ t .live → t .dead + 0 ≡ t .dead → t .size + 0 ≡ t .size → plus t noTotals ≡ t
     same p q r = λ j. record { live = p j; dead = q j; size = r j }
 
-zero-plus : (t : Totals) → plus noTotals t ≡ t
+pub zero-plus : (t : Totals) → plus noTotals t ≡ t
 zero-plus t = same (omega arith) (omega arith) (omega arith)
   where
     same : 0 + t .live ≡ t .live → 0 + t .dead ≡ t .dead → 0 + t .size ≡ t .size → plus noTotals t ≡ t
     same p q r = λ j. record { live = p j; dead = q j; size = r j }
 
-plus-assoc : (a b c : Totals) → plus (plus a b) c ≡ plus a (plus b c)
+pub plus-assoc : (a b c : Totals) → plus (plus a b) c ≡ plus a (plus b c)
 plus-assoc a b c = same (omega arith) (omega arith) (omega arith)
   where
     same : a .live + b .live + c .live ≡ a .live + (b .live + c .live) → a .dead + b .dead + c .dead ≡ a .dead + (b .dead + c .dead)
@@ -150,6 +148,11 @@ pub totals-count : (es : List Entry) → listTotals es .live + listTotals es .de
 totals-count [] = refl
 totals-count (e ∷ es) = omega (arith, live-or-dead (isLive e), totals-count es)
 
+-- sizes of 32 bits add up to little
+pub sizes-few : {es : List Entry} → All Fits es → listTotals es .size ≤ length es * 4294967296
+sizes-few none = omega arith
+sizes-few (one {x = e} f fs) = omega (arith, f .size, sizes-few fs)
+
 -- SLOTS, counted
 
 -- the slots below items side by side
@@ -171,9 +174,7 @@ module _ (s : ℕ) where
   own-turned (n ∷ a) b = omega (arith, own-turned a (n ∷ b))
 
   pub slots-append : (h : ℕ) (a b : List (Item h)) → times s (slotsIn h (a ++ b)) ≡ times s (slotsIn h a) + times s (slotsIn h b)
-  slots-append h [] b = omega arith
-  slots-append h (x ∷ a) b =
-      omega (arith, slots-append h a b, times-append s (slots h x) (slotsIn h (a ++ b)), times-append s (slots h x) (slotsIn h a))
+  slots-append h a b = ap (times s) (parts-append (slots h) a b) ∙ times-append s (slotsIn h a) (slotsIn h b)
 
   pub slots-three : (h : ℕ) (a b c : List (Item h)) → times s (slotsIn h (a ++ (b ++ c))) ≡ times s (slotsIn h a) + (times s (slotsIn h b) + times s (slotsIn h c))
   slots-three h a b c = omega (arith, slots-append h a (b ++ c), slots-append h b c)
@@ -189,6 +190,11 @@ module _ (s : ℕ) where
   slots-leaf (e ∷ es) = slots-leaf es
 
 -- HOW MANY ENTRIES: at most order for each node
+
+-- the root has at most order items
+pub root-few : (st : Settings) (h : ℕ) (n : Tree h) → Rooted st h n → len n ≤ st .order
+root-few st zero n r = r
+root-few st (suc h) n r = r .1
 
 items-few : (st : Settings) (h : ℕ) → ((i : Item (suc h)) → Whole st (suc h) i → length (entries (suc h) i) ≤ st .order * length (slots (suc h) i))
     → {xs : List (Item (suc h))} → All (Whole st (suc h)) xs → length (flat (suc h) xs) ≤ st .order * length (slotsIn (suc h) xs)
@@ -206,7 +212,7 @@ items-few st h f (one {x = x} {xs = xs} w ws) =
 leaf-long : (es : List Entry) → length (flat zero es) ≡ length es
 leaf-long es = ap length (flat-zero es)
 
-leaf-bare : (es : List Entry) → length (slotsIn zero es) ≡ 0
+pub leaf-bare : (es : List Entry) → length (slotsIn zero es) ≡ 0
 leaf-bare [] = refl
 leaf-bare (e ∷ es) = leaf-bare es
 

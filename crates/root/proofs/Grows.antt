@@ -14,7 +14,8 @@ use Rattle.model.proofs.Lists.{all-head}
 use Rattle.model.proofs.Settles.{length-others}
 use Rattle.tree.specs.Bridge.{treeAt, unusedOf}
 use Rattle.tree.specs.Sums.{Sums}
-use Rattle.settle.proofs.Places.{slot-at, node-used}
+use Rattle.tree.proofs.SoundHolds.{slot-read}
+use Rattle.settle.proofs.Places.{node-used}
 use Rattle.root.specs.Roots.{Splits, Halved, Moves, moved, Moved, Crowns, crowned}
 use Rattle.root.proofs.Indexes.{pool-lowest, now-holds}
 use Rattle.root.proofs.Halves as H
@@ -32,7 +33,7 @@ module _ {st : Settings} {W₀ : List ℕ} {h low : ℕ} (pre : Splits st W₀ h
         held = pre .keeps .held;
         empty = pre .keeps .holds .blank;
         lowest = pre .lowest;
-        used = node-used ns h 0 t (ap (nth ns) (sym (slot-at ns h 0)) ∙ all-head (pre .keeps .holds .tree));
+        used = node-used ns h 0 t (ap (nth ns) (sym (slot-read ns h 0)) ∙ all-head (pre .keeps .holds .tree));
         some = omega (arith, pre .two);
       }
 
@@ -40,7 +41,7 @@ module _ {st : Settings} {W₀ : List ℕ} {h low : ℕ} (pre : Splits st W₀ h
     top : H.Top ns h t a
     top =
         record {
-          root = slot-at ns h 0;
+          root = slot-read ns h 0;
           holds = pre .keeps .holds .tree;
           apart = pre .keeps .apart;
           bounded = record { small = pre .keeps .small; fit = pre .keeps .fit };

@@ -13,6 +13,7 @@ use Rattle.slots.specs.Nodes as S
 use Rattle.slots.specs.Search.{Below, Lowest}
 use Rattle.slots.proofs.Nodes.{nth-same}
 use Rattle.slots.proofs.Over.{map-take, map-drop}
+use Rattle.slots.proofs.Finds.{below-set}
 use Rattle.model.specs.Lists.{times, All, none, one}
 use Rattle.model.specs.Tree.{Item, Tree, len, slots, lowest, others}
 use Rattle.model.specs.Share.{half}
@@ -21,15 +22,15 @@ use Rattle.model.proofs.Lists.{all-append, all-left, all-right, all-head, all-t
 use Rattle.model.proofs.Trees.{slotsIn, slots-append}
 use Rattle.tree.specs.Bridge.{kindFor, rowFor, nodeFor, cellsOf, Stands, Holds, unusedOf, Blank, HoldsIndex, Apart}
 use Rattle.tree.proofs.Cells.{cells-append, agree-items, agree-tree, used-items, kind-used}
-use Rattle.tree.proofs.Unused.{unused-taken}
+use Rattle.tree.proofs.Unused.{used-in, unused-taken}
 use Rattle.tree.specs.Sums.{Sums}
 use Rattle.settle.specs.Weigh.{rowOver}
 use Rattle.settle.specs.Steps.{Bounded}
 use Rattle.settle.proofs.Weights.{row-over, sums-fit, bounded-left, bounded-right}
-use Rattle.settle.proofs.Places.{used-in, node-used}
+use Rattle.settle.proofs.Places.{node-used}
 use Rattle.settle.proofs.Puts.{put-first, put-second, put-other, blank-set}
 use Rattle.root.specs.Roots.{moved, crowned}
-use Rattle.root.proofs.Sets.{below-set, no-blank, unused-same}
+use Rattle.root.proofs.Sets.{no-blank, unused-same}
 
 -- a root that the nodes hold, and the slot that its lower half takes
 pub record Top (ns : List S.Node) (h : ℕ) (t : Tree h) (a : ℕ) : Type 0 where
@@ -68,9 +69,6 @@ module _ {ns : List S.Node} {h : ℕ} {t : Tree h} {a : ℕ} (p : Top ns h t a) 
   abbrev bare : S.Node
   bare = withRows (nth ns 0) []
 
-  set-in : 0 < length (set ns a (nth ns 0))
-  set-in = used-in (set ns a (nth ns 0)) 0 (λ z. used (ap (λ (n : S.Node). n .kind) (sym (getD-set-other ns a 0 (nth ns 0) unused (λ e. a-root (sym e)))) ∙ z))
-
   moved-here : nth (moved ns a) a ≡ nth ns 0
   moved-here = put-first ns a (nth ns 0) 0 bare a-root (p .inside)
 
@@ -78,7 +76,7 @@ module _ {ns : List S.Node} {h : ℕ} {t : Tree h} {a : ℕ} (p : Top ns h t a) 
   moved-root = put-second ns a (nth ns 0) 0 bare root-in
 
   pub moved-below : Below (moved ns a) a
-  moved-below = below-set (set ns a (nth ns 0)) 0 bare a set-in used (below-set ns a (nth ns 0) a (p .inside) used (p .first .before))
+  moved-below = below-set (set ns a (nth ns 0)) a 0 bare (below-set ns a a (nth ns 0) (p .first .before) (λ lt. used)) (λ lt. used)
 
   moved-blank : Blank (moved ns a)
   moved-blank = blank-set (set ns a (nth ns 0)) 0 bare (blank-set ns a (nth ns 0) (p .empty) (no-blank (nth ns 0) used)) (no-blank bare used)
@@ -157,12 +155,8 @@ module _ {ns : List S.Node} {h : ℕ} {t : Tree h} {a : ℕ} (p : Top ns h t a) 
     split-in : 0 < length split
     split-in = used-in split 0 split-used
 
-    set-a-in : a < length (set (moved ns a) b high)
-    set-a-in =
-        used-in (set (moved ns a) b high) a (λ z. whole-used (ap (λ (n : S.Node). n .kind) (sym (getD-set-other (moved ns a) b a high unused a-b)) ∙ z))
-
     split-below : Below split b
-    split-below = below-set (set (moved ns a) b high) a low b set-a-in whole-used (below-set (moved ns a) b high b b-in whole-used (second .before))
+    split-below = below-set (set (moved ns a) b high) b a low (below-set (moved ns a) b b high (second .before) (λ lt. whole-used)) (λ lt. whole-used)
 
     split-blank : Blank split
     split-blank = blank-set (set (moved ns a) b high) a low (blank-set (moved ns a) b high moved-blank (no-blank high whole-used)) (no-blank low whole-used)
@@ -271,4 +265,4 @@ module _ {ns : List S.Node} {h : ℕ} {t : Tree h} {a : ℕ} (p : Top ns h t a) 
         })
 
     pub above-below : Below above b
-    above-below = below-set split 0 (nodeFor (suc h) parent) b split-in (kind-used (suc h)) split-below
+    above-below = below-set split b 0 (nodeFor (suc h) parent) split-below (λ lt. kind-used (suc h))

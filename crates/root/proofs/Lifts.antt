@@ -19,9 +19,9 @@ use Rattle.model.proofs.Lists.{all-left, all-head, all-tail, hit-same, times-ap
 use Rattle.model.proofs.Trees.{flat, slotsIn}
 use Rattle.tree.specs.Bridge.{treeAt, childOf, kindFor, nodeFor, cells, cellsOf, Stands, Holds, unusedOf, Blank, HoldsIndex, Apart}
 use Rattle.tree.proofs.Cells.{agree-items, kind-used}
-use Rattle.tree.proofs.Unused.{unused-released}
+use Rattle.tree.proofs.Unused.{used-in, unused-released}
 use Rattle.settle.specs.Settle.{childAt}
-use Rattle.settle.proofs.Places.{used-in, node-used}
+use Rattle.settle.proofs.Places.{node-used}
 use Rattle.settle.proofs.Puts.{put-first, put-other, blank-set}
 use Rattle.root.specs.Batch.{indexAt}
 use Rattle.root.specs.Roots.{lifted, collapsed}

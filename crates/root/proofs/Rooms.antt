@@ -1,66 +1,24 @@
 -- THE ROOT'S CALLS in the model: each takes a task at least, has slots enough, two of them left for a split, and leaves an index that can take the
 -- tasks left. Assumes nothing.
 use mathlib.Core.Path.{_≡_, refl, sym, ap, _∙_}
-use mathlib.Core.Logic.{_⊎_, inl, inr}
 use mathlib.Core.Bool.{true≢false}
 use mathlib.Core.List.{List, [], _∷_}
-use Prim.Native.Nat.{ℕ, zero, suc, _+_, _*_, _≤_, _<_, max}
+use Prim.Native.Nat.{ℕ, zero, suc, _+_, _≤_, _<_}
 use native.Mathlib.Omega.{arith}
-use native.Mathlib.Nat.{le-refl, mul-suc, mul-zero}
 use lib.ListN.{length, length-append}
 use Rattle.model.specs.declared.Counts.{Counts}
-use Rattle.model.specs.declared.Entry.{Entry}
 use Rattle.model.specs.declared.Settings.{Settings}
-use Rattle.model.specs.Lists.{All, none, times}
-use Rattle.model.specs.Tree.{Tree, Index, len, slotsOf, entriesOf, others}
-use Rattle.model.specs.Plain.{Task, step, plainList}
-use Rattle.model.specs.Change.{Result, Unchanged, Remove, Split, Absorb, Changed, isChange, Run, Outcome, change, noCeiling, settleRoot, Batched, changeRoot}
-use Rattle.model.specs.Refuse.{needed}
+use Rattle.model.specs.Lists.{All, times}
+use Rattle.model.specs.Tree.{Tree, Index, slotsOf, entriesOf}
+use Rattle.model.specs.Plain.{Task}
+use Rattle.model.specs.Change.{Remove, Split, isChange, Outcome, change, noCeiling, settleRoot, Batched, changeRoot}
 use Rattle.model.specs.Sound.{InLimits, Fits}
-use Rattle.model.proofs.Lists.{all-left, all-head}
-use Rattle.model.proofs.Plain.{Grants, list-sorted, list-all, step-long}
+use Rattle.model.proofs.Lists.{all-left}
+use Rattle.model.proofs.Plain.{Grants, list-all, list-long}
 use Rattle.model.proofs.Trees.{flat}
-use Rattle.model.proofs.Settles.{OverFull, length-others}
-use Rattle.model.proofs.Changes.{Rising, Removing, did-left, did-rising, Owes, Given, Enough, change-law, interior-strolled}
-use Rattle.model.proofs.Batches.{Fine, ready-few, RootSettled, root-settled, Room}
+use Rattle.model.proofs.Changes.{Rising, did-left, did-rising, Owes, Given, Enough}
+use Rattle.model.proofs.Batches.{Fine, RootSettled, Room, calling, called, after-call, call-given, call-owes, call-settled, call-fewer, call-enough, call-two, call-slots, call-room}
 use Rattle.tree.specs.Bridge.{Apart}
-
--- how many slots a call of the root may spend, at a height, of n tasks with m left
-abbrev Spent : ℕ → ℕ → ℕ → ℕ → ℕ → Type 0
-Spent h n m a b = a + m * h ≤ b + n * h
-
-needed-is : (h n : ℕ) → needed n (suc (suc h)) ≡ n * suc (suc h) + 4
-needed-is h n = ap (λ (m : ℕ). n * m + 4) (larger h)
-  where
-    larger : (g : ℕ) → max (suc (suc g)) 2 ≡ suc (suc g)
-    larger g = omega arith
-
--- what refusal 7 asks for is enough for the call, leaves two slots for a split root, and is enough for the tasks left
-for-call : (h n a : ℕ) → needed n (suc h) ≤ a → n * h ≤ a
-for-call zero n a room = omega (arith, mul-zero n)
-for-call (suc h) n a room = omega (arith, needed-is h n, mul-suc n (suc h))
-
-two-left : (h n m a b : ℕ) → m < n → Spent h n m a b → needed n (suc h) ≤ a → 2 ≤ b
-two-left zero n m a b lt sp room = omega (arith, mul-zero n, mul-zero m)
-two-left (suc h) n m a b lt sp room = omega (arith, needed-is h n, mul-suc n (suc h))
-
-room-same : (h n m a b : ℕ) → m < n → Spent h n m a b → needed n (suc h) ≤ a → needed m (suc h) ≤ b
-room-same zero n m a b lt sp room = omega (arith, mul-zero n, mul-zero m)
-room-same (suc h) n m a b lt sp room = omega (arith, needed-is h n, needed-is h m, mul-suc n (suc h), mul-suc m (suc h))
-
-room-gone : (h n m a b : ℕ) → m < n → Spent h n m a b → needed n (suc h) ≤ a → needed m 1 ≤ b
-room-gone zero n m a b lt sp room = omega (arith, mul-zero n, mul-zero m)
-room-gone (suc h) n m a b lt sp room = omega (arith, needed-is h n, mul-suc n (suc h), mul-suc m h)
-
-room-split : (n m a b c : ℕ) → m < n → Spent 0 n m a b → needed n 1 ≤ a → b ≤ 2 + c → needed m 2 ≤ c
-room-split n m a b c lt sp room two = omega (arith, mul-zero n, mul-zero m)
-
-no-tasks : {ts : List Task} → ts ≡ [] → Removing ts
-no-tasks e = rw e none
-
-list-long : (ts : List Task) (es : List Entry) → length (plainList ts es) ≤ length es + length ts
-list-long [] es = omega arith
-list-long (t ∷ ts) es = omega (arith, list-long ts (step t es), step-long t es)
 
 -- AN INDEX THAT CAN TAKE THE TASKS ts
 pub record Going (st : Settings) (x : Index) (ts : List Task) : Type 0 where
@@ -86,70 +44,29 @@ module _ {st : Settings} {x : Index} {t : Task} {ts : List Task} (lim : InLimits
   after = settleRoot (call .result) (x .height) (call .node) (call .run .unused)
 
   pub given : Given st (x .height) (x .root) (t ∷ ts)
-  given = record { whole = g .fine .whole; few = ready-few st (x .height) (x .root) (g .fine .ready); sorted = g .fine .sorted; rising = g .rising; short = g .short }
+  given = call-given st lim x t ts c (g .fine) (g .rising) (g .short) (g .low)
 
   owes : Owes st (x .height) noCeiling (x .root) (t ∷ ts) (record { unused = x .unused; counts = c }) call
-  owes = change-law st lim (x .height) noCeiling (x .root) (t ∷ ts) (record { unused = x .unused; counts = c }) given
+  unfolding calling called
+  owes = call-owes st lim x t ts c (g .fine) (g .rising) (g .short) (g .low)
 
   settled : RootSettled st lim (call .result) (x .height) (call .node) (call .run .unused) after
-  settled =
-      root-settled st lim (call .result) (x .height) (x .root) (call .node) (call .run .unused) (owes .whole)
-      (rw (owes .did .list) (list-sorted (owes .did .taken) (g .fine .sorted))) (g .fine .ready) (owes .says) (owes .kept)
+  unfolding calling called after-call
+  settled = call-settled st lim x t ts c (g .fine) (g .rising) (g .short) (g .low)
 
   pub fewer : length (call .tasks) < suc (length ts)
-  fewer = owes .moves (g .fine .ready) (all-head (g .low))
-
-  over : call .result ≡ Split → OverFull st (call .node)
-  over e = rw e at (owes .says (λ q. absurd (true≢false (sym (ap isChange e) ∙ q))))
+  unfolding calling called
+  fewer = call-fewer st lim x t ts c (g .fine) (g .rising) (g .short) (g .low)
 
   pub gone : call .result ≡ Remove → call .node .items ≡ []
   gone e = rw e at (owes .says (λ q. absurd (true≢false (sym (ap isChange e) ∙ q))))
 
-  -- an interior root's walk ends with no task, or no child
-  ends : (h : ℕ) (n : Tree h) (run : Run) → Given st h n (t ∷ ts) → 0 < h
-      → (change st h noCeiling n (t ∷ ts) run .tasks ≡ []) ⊎ (len (change st h noCeiling n (t ∷ ts) run .node) ≡ 0)
-  ends zero n run f pos = absurd (omega arith)
-  ends (suc h) n run f pos =
-      interior-strolled st lim h (change st h) (change-law st lim h) noCeiling n (t ∷ ts) run f .over (le-refl _) (inr refl) (g .low)
-
-  -- so an interior root that is split has taken all
-  split-all : call .result ≡ Split → 0 < x .height → call .tasks ≡ []
-  split-all e pos = by (ends (x .height) (x .root) _ given pos)
-    where
-      by : (call .tasks ≡ []) ⊎ (len (call .node) ≡ 0) → call .tasks ≡ []
-      by (inl q) = q
-      by (inr q) = absurd (omega (arith, over e .over, q))
-
   pub enough : Enough (x .height) (t ∷ ts) (x .unused)
-  enough = by (g .room)
-    where
-      by : Room x (t ∷ ts) → Enough (x .height) (t ∷ ts) (x .unused)
-      by (inl room) = inl (for-call (x .height) (suc (length ts)) (length (x .unused)) room)
-      by (inr rem) = inr rem
+  enough = call-enough st lim x t ts c (g .fine) (g .rising) (g .short) (g .low) (g .room)
 
   pub two : call .result ≡ Split → 2 ≤ length (call .run .unused)
-  two e = by (g .room)
-    where
-      by : Room x (t ∷ ts) → 2 ≤ length (call .run .unused)
-      by (inl room) = two-left (x .height) (suc (length ts)) (length (call .tasks)) (length (x .unused)) (length (call .run .unused)) fewer (owes .spent) room
-      by (inr rem) = absurd (omega (arith, over e .over, owes .shrinks rem, given .few))
-
-  -- the room that is left, by the result
-  room-left : (r : Result) (h : ℕ) (n : Tree h) (unused : List ℕ) (left : List Task) → length left < suc (length ts)
-      → Spent h (suc (length ts)) (length left) (length (x .unused)) (length unused) → needed (suc (length ts)) (suc h) ≤ length (x .unused)
-      → (r ≡ Split → 0 < h → left ≡ []) → Room (settleRoot r h n unused) left
-  room-left Unchanged h n unused left lt sp room all = inl (room-same h (suc (length ts)) (length left) (length (x .unused)) (length unused) lt sp room)
-  room-left Changed h n unused left lt sp room all = inl (room-same h (suc (length ts)) (length left) (length (x .unused)) (length unused) lt sp room)
-  room-left Absorb h n unused left lt sp room all = inl (room-same h (suc (length ts)) (length left) (length (x .unused)) (length unused) lt sp room)
-  room-left Remove h n unused left lt sp room all = inl (room-gone h (suc (length ts)) (length left) (length (x .unused)) (length unused) lt sp room)
-  room-left Split zero n unused left lt sp room all =
-      inl (room-split (suc (length ts)) (length left) (length (x .unused)) (length unused) (length (others (others unused))) lt sp room
-      (omega (arith, length-others unused, length-others (others unused))))
-  room-left Split (suc h) n unused left lt sp room all = inr (no-tasks (all refl (omega arith)))
-
-  room-after : Room x (t ∷ ts) → Room after (call .tasks)
-  room-after (inl room) = room-left (call .result) (x .height) (call .node) (call .run .unused) (call .tasks) fewer (owes .spent) room split-all
-  room-after (inr rem) = inr (did-left (owes .did) rem)
+  unfolding calling called
+  two = call-two st lim x t ts c (g .fine) (g .rising) (g .short) (g .low) (g .room)
 
   -- THE ROOT THAT THE CALL LEAVES
 
@@ -172,15 +89,16 @@ module _ {st : Settings} {x : Index} {t : Task} {ts : List Task} (lim : InLimits
 
   -- AND THE INDEX, once its result is settled
   pub going-on : Going st after (call .tasks)
+  unfolding calling called after-call
   going-on =
       record {
         fine = settled .fine;
         root = settled .rootSlot ∙ node-root;
-        once = λ s. omega (arith, settled .slots two s, owes .slots enough s, g .once s);
+        once = λ s. omega (arith, call-slots st lim x t ts c (g .fine) (g .rising) (g .short) (g .low) (g .room) s, g .once s);
         rising = did-rising (owes .did) (g .rising);
         short = omega (arith, fewer, g .short);
         low = did-left (owes .did) (g .low);
-        room = room-after (g .room);
+        room = call-room st lim x t ts c (g .fine) (g .rising) (g .short) (g .low) (g .room);
         sets = did-left (owes .did) (g .sets);
         fit = rw (settled .list) node-fit;
         small = omega (arith, ap length (settled .list), node-small);

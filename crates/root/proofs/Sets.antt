@@ -1,30 +1,19 @@
 -- A NODE PUT INTO A SLOT: which slots are unused then, and changes of one slot that are one change. Assumes nothing.
-use mathlib.Core.Path.{_≡_, refl, sym, ap, _∙_}
+use mathlib.Core.Path.{_≡_, refl, ap, _∙_}
 use mathlib.Core.Logic.{_≢_}
 use mathlib.Core.List.{List, [], _∷_, _++_}
 use Prim.Native.Nat.{ℕ, zero, suc, _<_}
-use native.Mathlib.Omega.{arith}
-use native.Mathlib.Decide.{ℕ-discrete}
 use lib.ListN.{length, take, drop, set}
-use lib.Seq.{getD-set-other, set-set, take-length, drop-length}
+use lib.Seq.{set-set, take-length, drop-length}
 use borrow.Author.Tests.{ne-eqb}
 use Rattle.slots.specs.declared.Row.{Row}
-use Rattle.slots.specs.Nodes.{Now, nodes, nth, rowsAt, unused, putRows, putKind, put2, withRows, backNodes, putIn}
+use Rattle.slots.specs.Nodes.{nth, unused, putRows, putKind, put2, withRows, backNodes, putIn}
 use Rattle.slots.specs.Nodes as S
-use Rattle.slots.specs.Search.{Below}
-use Rattle.slots.proofs.Nodes.{nth-same, nth-kind, length-nodes}
-use Rattle.model.specs.declared.Settings.{Settings}
+use Rattle.slots.proofs.Nodes.{nth-same, nth-kind}
 use Rattle.tree.specs.Bridge.{unusedFrom, unusedOf}
 use Rattle.root.specs.Roots.{moved}
 
 -- WHICH SLOTS ARE UNUSED
-
-pub below-set : (ns : List S.Node) (s : ℕ) (n : S.Node) (r : ℕ) → s < length ns → n .kind ≢ 0 → Below ns r → Below (set ns s n) r
-below-set ns s n r h u b t g = by (ℕ-discrete t s)
-  where
-    by : Dec (t ≡ s) → nth (set ns s n) t .kind ≢ 0
-    by (yes e) = λ z. u (ap (λ (m : S.Node). m .kind) (sym (ap (nth (set ns s n)) e ∙ nth-same ns s n h)) ∙ z)
-    by (no ne) = λ z. b t g (ap (λ (m : S.Node). m .kind) (sym (getD-set-other ns s t n unused ne)) ∙ z)
 
 -- a node in use may be put into any slot
 pub no-blank : (n : S.Node) → n .kind ≢ 0 → n .kind ≡ 0 → n ≡ unused
@@ -52,13 +41,6 @@ pub kind-set : (ns : List S.Node) (s : ℕ) (n : S.Node) (k : ℕ) → s < lengt
 unfolding putKind
 kind-set ns s n k h =
     ap (λ (m : S.Node). set (set ns s n) s (record { kind = k; rows = m .rows })) (nth-same ns s n h) ∙ set-set ns s n (record { kind = k; rows = n .rows })
-
--- over the pool: the rows that are put are there
-pub own-rows : (st : Settings) (W₀ W : List ℕ) (s : ℕ) (l : List Row) → Now st W₀ W (putRows (nodes st W₀) s l) → s < st .nodes → rowsAt st W s ≡ l
-unfolding putRows
-own-rows st W₀ W s l w h =
-    ap (λ (ns : List S.Node). nth ns s .rows) (w .is)
-    ∙ ap (λ (n : S.Node). n .rows) (nth-same (nodes st W₀) s (record { kind = nth (nodes st W₀) s .kind; rows = l }) (omega (arith, length-nodes st W₀)))
 
 -- all rows of the root go to an unused slot, which got its kind before
 pub moved-all : (ns : List S.Node) (new k n : ℕ) → 0 ≢ new → new < length ns → nth ns new ≡ unused → k ≡ nth ns 0 .kind → n ≡ length (nth ns 0 .rows)

@@ -18,7 +18,9 @@ use Rattle.tree.proofs.Cells.{kind-used}
 use Rattle.settle.specs.declared.ChangeResult.{ChangeResult}
 use Rattle.settle.specs.declared.ChangeResult.the-variants as Be
 use Rattle.settle.specs.Settle.{resultIs}
-use Rattle.settle.proofs.Places.{slot-at, used-in, node-used}
+use Rattle.tree.proofs.Unused.{used-in}
+use Rattle.tree.proofs.SoundHolds.{slot-read}
+use Rattle.settle.proofs.Places.{node-used}
 use Rattle.settle.proofs.Puts.{blank-set, low-same}
 use Rattle.root.specs.Batch.{indexAt}
 use Rattle.root.specs.Roots.{Returned, SettledRoot, Splits, Halved}
@@ -49,7 +51,7 @@ module _ {st : Settings} {W : List ℕ} {h low : ℕ} {v : ChangeResult} (pre : 
   leaf = set (nodes st W) 0 bare
 
   node : nth ns 0 ≡ nodeFor h t
-  node = ap (nth ns) (sym (slot-at ns h 0)) ∙ all-head (pre .keeps .holds .tree)
+  node = ap (nth ns) (sym (slot-read ns h 0)) ∙ all-head (pre .keeps .holds .tree)
 
   leaf-unused : unusedOf leaf ≡ unusedOf ns
   leaf-unused = unused-same ns 0 bare (kind-used 0) (node-used ns h 0 t node)
@@ -58,7 +60,7 @@ module _ {st : Settings} {W : List ℕ} {h low : ℕ} {v : ChangeResult} (pre : 
   leaf-holds e =
       let rows : nth ns 0 .rows ≡ [] = ap (λ (n : S.Node). n .rows) node ∙ ap (map (rowFor h)) e in
       record {
-        tree = one (ap (nth leaf) (slot-at ns h 0) ∙ nth-same ns 0 bare (used-in ns 0 (node-used ns h 0 t node)) ∙ ap (λ (l : List Row). record { kind = 1; rows = l }) rows) none;
+        tree = one (ap (nth leaf) (slot-read ns h 0) ∙ nth-same ns 0 bare (used-in ns 0 (node-used ns h 0 t node)) ∙ ap (λ (l : List Row). record { kind = 1; rows = l }) rows) none;
         unused = leaf-unused;
         blank = blank-set ns 0 bare (pre .keeps .holds .blank) (no-blank bare (kind-used 0));
       }

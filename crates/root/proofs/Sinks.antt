@@ -10,18 +10,17 @@ use Rattle.slots.specs.Slots.{blank}
 use Rattle.slots.specs.Nodes.{Now, Give, nodes, nth, rowsAt, unused, putRows, putKind, put2, without, joinNodes}
 use Rattle.slots.specs.Nodes as S
 use Rattle.slots.proofs.Nodes.{length-nodes, fits-node, then, become}
-use Rattle.slots.proofs.Pairs.{kept-same}
+use Rattle.slots.proofs.Pairs.{kept-same, own-rows}
 use Rattle.model.specs.declared.Settings.{Settings}
 use Rattle.model.specs.Lists.{All}
 use Rattle.model.specs.Tree.{entriesOf}
 use Rattle.model.specs.Sound.{Fits}
 use Rattle.tree.specs.Bridge.{childOf, kindFor, HoldsIndex}
 use Rattle.settle.specs.Settle.{childAt}
-use Rattle.settle.proofs.Places.{slot-at}
+use Rattle.tree.proofs.SoundHolds.{slot-read}
 use Rattle.root.specs.Batch.{indexAt}
 use Rattle.root.specs.Roots.{Keeps, Becomes, Lone, lifted, collapsed}
 use Rattle.root.proofs.Indexes.{index-read, now-holds}
-use Rattle.root.proofs.Sets.{own-rows}
 use Rattle.root.proofs.Lifts.{none-left, raised, Single, child-root, child-in, raise, raise-holds, lifted-list, lifted-apart, lifted-same, ends-leaf, ends-wide}
 
 single : {st : Settings} {W : List ℕ} {h : ℕ} → Lone st W h → Single (nodes st W) h
@@ -34,7 +33,7 @@ module _ {st : Settings} {W₀ : List ℕ} {h : ℕ} (pre : Lone st W₀ h) {row
   ns = nodes st W₀
 
   slot-is : childAt ns h 0 0 .slot ≡ child
-  slot-is = slot-at ns h (childOf (getD (nth ns 0 .rows) 0 blank)) ∙ ap childOf (sym er) ∙ sym ec
+  slot-is = slot-read ns h (childOf (getD (nth ns 0 .rows) 0 blank)) ∙ ap childOf (sym er) ∙ sym ec
 
   away : child ≢ 0
   away e = child-root (single pre) (slot-is ∙ e)

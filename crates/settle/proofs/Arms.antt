@@ -8,7 +8,7 @@ use lib.ListN.{length, take, set, length-map, length-take, length-reverseAux}
 use Rattle.slots.specs.declared.Row.{Row}
 use Rattle.slots.specs.Nodes.{nodes, nth, unused, putRows, Now}
 use Rattle.slots.specs.Nodes as S
-use Rattle.slots.proofs.Nodes.{length-nodes, nth-rows}
+use Rattle.slots.proofs.Nodes.{length-nodes, nth-rows, nth-put}
 use Rattle.model.specs.declared.Settings.{Settings}
 use Rattle.model.specs.Lists.{one, hit}
 use Rattle.model.specs.Tree.{Tree}
@@ -20,6 +20,7 @@ use Rattle.model.proofs.Settles.{Says, takes, takes-one}
 use Rattle.tree.specs.Bridge.{rowFor, nodeFor, treeAt, childOf, Holds, Blank, unusedOf}
 use Rattle.tree.specs.Bridge as T
 use Rattle.tree.proofs.Cells.{agree-items, cells-rest}
+use Rattle.tree.proofs.Unused.{used-in}
 use Rattle.settle.specs.declared.ChangeResult.{ChangeResult}
 use Rattle.settle.specs.declared.Standing.{Standing}
 use Rattle.settle.specs.Settle.{resultIs, inner, kidsAt, childAt, beforeAt, afterAt, Low, Pending, Settled, Ended, Done}
@@ -27,8 +28,8 @@ use Rattle.settle.specs.Weigh.{rowOver, Sits, Renews, renewed}
 use Rattle.settle.specs.Steps.{Bounded, Family, Poise, Poised, Came}
 use Rattle.settle.proofs.Weights.{row-over, sums-fit, bounded-left, bounded-right}
 use Rattle.settle.proofs.Zips.{set-turned, map-turned}
-use Rattle.settle.proofs.Places.{used-in, node-used, kids-apart, family-kids, family-long}
-use Rattle.settle.proofs.Parents.{rows-same, unused-rows}
+use Rattle.settle.proofs.Places.{node-used, kids-apart, family-kids, family-long}
+use Rattle.settle.proofs.Parents.{unused-rows}
 use Rattle.settle.proofs.Recast.{owns, then-settled}
 use Rattle.settle.proofs.Puts.{low-same}
 use Rattle.settle.proofs.Focuses.{poise-focus}
@@ -116,7 +117,7 @@ module _ {st : Settings} {W : List ℕ} {h s i low : ℕ} {v : ChangeResult} (t 
       kind = ap (λ (n : S.Node). n .kind) (t .loose .parent)
 
       top : nth (putRows ns s newRows) s ≡ nodeFor (suc h) (inner h s kids)
-      top = rows-same ns s newRows (omega (arith, parent-in, length-nodes st W)) ∙ (λ j. record { kind = kind j; rows = rows-new j })
+      top = nth-put ns s newRows (omega (arith, parent-in, length-nodes st W)) ∙ (λ j. record { kind = kind j; rows = rows-new j })
 
       other : (x : ℕ) → hit x s ≡ 0 → nth (putRows ns s newRows) x ≡ nth ns x
       other x z = nth-rows ns x s newRows (λ e. absurd (omega (arith, z, hit-same x s e)))

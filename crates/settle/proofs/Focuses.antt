@@ -16,12 +16,13 @@ use Rattle.model.proofs.Trees.{joined, back, back-joined, own, slotsIn}
 use Rattle.tree.specs.Bridge.{rowFor, nodeFor}
 use Rattle.tree.specs.Bridge as T
 use Rattle.tree.proofs.Cells.{cells-rest}
+use Rattle.tree.proofs.Unused.{used-in}
 use Rattle.settle.specs.Settle.{inner}
 use Rattle.settle.specs.Weigh.{Sits}
 use Rattle.settle.specs.Steps.{Bounded, Focus, Poise}
 use Rattle.settle.proofs.Weights.{bounded-left, bounded-right}
 use Rattle.settle.proofs.Zips.{map-turned}
-use Rattle.settle.proofs.Places.{used-in, node-used, family-rows, family-long, parent-in}
+use Rattle.settle.proofs.Places.{node-used, family-rows, family-long, parent-in}
 use Rattle.settle.proofs.Recast.{owns, family-counts}
 use Rattle.settle.proofs.Puts.{lowest-in}
 

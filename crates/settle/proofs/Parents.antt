@@ -5,30 +5,16 @@ use mathlib.Core.List.{List}
 use Prim.Native.Nat.{ℕ, _+_, _<_}
 use native.Mathlib.Omega.{arith}
 use lib.ListN.{length, set, length-set}
-use lib.Seq.{set-set}
 use Rattle.slots.specs.declared.Row.{Row}
 use Rattle.slots.specs.Nodes.{nodes, nth, rowsAt, putRows, withRows, Now}
 use Rattle.slots.specs.Nodes as S
-use Rattle.slots.proofs.Nodes.{then, become, nth-rows, nth-same, length-nodes}
-use Rattle.slots.proofs.Pairs.{kept-rows}
+use Rattle.slots.proofs.Nodes.{then, become, nth-rows, nth-put, put-put, length-nodes}
+use Rattle.slots.proofs.Pairs.{kept-rows, own-rows}
 use Rattle.model.specs.declared.Settings.{Settings}
 use Rattle.tree.specs.Bridge.{unusedOf}
 use Rattle.tree.proofs.Unused.{unused-kept}
 use Rattle.tree.specs.Sums.{Sums}
 use Rattle.settle.specs.Weigh.{rowOver, Renews, renewed, RenewsTwo, renewedTwo}
-
-pub rows-same : (ns : List S.Node) (s : ℕ) (l : List Row) → s < length ns → nth (putRows ns s l) s ≡ withRows (nth ns s) l
-unfolding putRows
-rows-same ns s l h = nth-same ns s (withRows (nth ns s) l) h
-
-pub rows-twice : (ns : List S.Node) (s : ℕ) (l m : List Row) → s < length ns → putRows (putRows ns s l) s m ≡ putRows ns s m
-unfolding putRows
-rows-twice ns s l m h =
-    ap (λ (n : S.Node). set (putRows ns s l) s (withRows n m)) (rows-same ns s l h) ∙ set-set ns s (withRows (nth ns s) l) (withRows (nth ns s) m)
-
-pub length-rows : (ns : List S.Node) (s : ℕ) (l : List Row) → length (putRows ns s l) ≡ length ns
-unfolding putRows
-length-rows ns s l = length-set ns s (withRows (nth ns s) l)
 
 pub unused-rows : (ns : List S.Node) (s : ℕ) (l : List Row) → unusedOf (putRows ns s l) ≡ unusedOf ns
 unfolding putRows
@@ -42,15 +28,15 @@ module _ (st : Settings) (W₀ W₁ : List ℕ) (h s i c : ℕ) (l : List Row) (
 
   pub renews-after : i < length l → c < st .nodes → Sums h (rowsAt st W₀ c) → Renews st W₁ h s i c
   renews-after within slot sums =
-      let mine : rowsAt st W₁ s ≡ l = ap (λ (ns : List S.Node). nth ns s .rows) (w .is) ∙ ap (λ (n : S.Node). n .rows) (rows-same (nodes st W₀) s l inside) in
+      let mine : rowsAt st W₁ s ≡ l = own-rows st W₀ W₁ s l w parent in
       record { held = w .held; parent = parent; within = omega (arith, within, ap length mine); slot = slot; sums = rw (kept-rows st W₀ W₁ c s l w away) sums }
 
   pub renewed-after : (W₂ : List ℕ) → Now st W₁ W₂ (renewed (nodes st W₁) h s i c) → Now st W₀ W₂ (putRows (nodes st W₀) s (set l i (rowOver h c (rowsAt st W₀ c))))
   renewed-after W₂ v =
       let ns : List S.Node = nodes st W₀ in
       become st W₀ W₂ _ _ (then (λ (ns : List S.Node). renewed ns h s i c) st W₀ W₁ W₂ (putRows ns s l) w v)
-      (rows-twice ns s l (set (nth (putRows ns s l) s .rows) i (rowOver h c (nth (putRows ns s l) c .rows))) inside
-      ∙ ap (λ (n : S.Node). putRows ns s (set (n .rows) i (rowOver h c (nth (putRows ns s l) c .rows)))) (rows-same ns s l inside)
+      (put-put ns s l (set (nth (putRows ns s l) s .rows) i (rowOver h c (nth (putRows ns s l) c .rows))) inside
+      ∙ ap (λ (n : S.Node). putRows ns s (set (n .rows) i (rowOver h c (nth (putRows ns s l) c .rows)))) (nth-put ns s l inside)
       ∙ ap (λ (n : S.Node). putRows ns s (set l i (rowOver h c (n .rows)))) (nth-rows ns c s l away))
 
 -- TWO ROWS MADE NEW

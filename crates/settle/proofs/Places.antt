@@ -1,14 +1,13 @@
 -- What is read off the nodes at child i of node s, where they hold a family. Assumes nothing.
-use mathlib.Core.Path.{_≡_, refl, sym, ap, _∙_, subst}
+use mathlib.Core.Path.{_≡_, sym, ap, _∙_, subst}
 use mathlib.Core.Logic.{_≢_}
 use mathlib.Core.List.{List, [], _∷_, map, reverseAux}
-use Prim.Native.Nat.{ℕ, zero, suc, _+_, _≤_, _<_}
+use Prim.Native.Nat.{ℕ, suc, _+_, _<_}
 use native.Mathlib.Omega.{arith}
-use native.Mathlib.Decide.{decLt}
-use lib.ListN.{length, take, drop, getD, length-map, List·getD-map, List·getD-eq-default}
+use lib.ListN.{length, take, drop, getD, length-map, List·getD-map}
 use Rattle.slots.specs.declared.Row.{Row}
 use Rattle.slots.specs.Slots.{blank}
-use Rattle.slots.specs.Nodes.{nodes, nth, rowsAt, unused}
+use Rattle.slots.specs.Nodes.{nodes, nth, rowsAt}
 use Rattle.slots.specs.Nodes as S
 use Rattle.slots.proofs.Nodes.{length-nodes}
 use Rattle.model.specs.declared.Settings.{Settings}
@@ -18,6 +17,7 @@ use Rattle.model.proofs.Lists.{all-head, all-tail}
 use Rattle.model.proofs.Trees.{flat-joined}
 use Rattle.tree.specs.Bridge.{rowFor, nodeFor, treeAt, childOf}
 use Rattle.tree.proofs.Cells.{kind-used}
+use Rattle.tree.proofs.Unused.{used-in}
 use Rattle.tree.proofs.ReadOff.{kids-read}
 use Rattle.settle.specs.Settle.{inner, kidsAt, childAt, beforeAt, afterAt}
 use Rattle.settle.specs.Weigh.{Sits, Named}
@@ -25,18 +25,6 @@ use Rattle.settle.specs.Steps.{Family, Came}
 use Rattle.settle.proofs.Zips.{take-turned, drop-turned, getD-turned, twice-turned, apart-at}
 
 -- ONE NODE
-
-pub slot-at : (ns : List S.Node) (h s : ℕ) → treeAt ns h s .slot ≡ s
-slot-at ns zero s = refl
-slot-at ns (suc h) s = refl
-
--- a node in use is one of the pool's
-pub used-in : (ns : List S.Node) (x : ℕ) → nth ns x .kind ≢ 0 → x < length ns
-used-in ns x u = by (decLt x (length ns))
-  where
-    by : Dec (x < length ns) → x < length ns
-    by (yes g) = g
-    by (no g) = let le : length ns ≤ x = omega arith in absurd (u (ap (λ (n : S.Node). n .kind) (List·getD-eq-default ns unused le)))
 
 pub node-used : (ns : List S.Node) (h x : ℕ) (y : Tree h) → nth ns x ≡ nodeFor h y → nth ns x .kind ≢ 0
 node-used ns h x y e z = kind-used h (ap (λ (n : S.Node). n .kind) (sym e) ∙ z)

@@ -9,7 +9,7 @@ use lib.ListN.{length}
 use Rattle.slots.specs.declared.Row.{Row}
 use Rattle.slots.specs.Nodes.{nth, putRows}
 use Rattle.slots.specs.Nodes as S
-use Rattle.slots.proofs.Nodes.{nth-rows}
+use Rattle.slots.proofs.Nodes.{nth-rows, nth-put}
 use Rattle.model.specs.Lists.{All, none, one, hit, times}
 use Rattle.model.specs.Tree.{Item, Tree, slots}
 use Rattle.model.specs.Share.{Place}
@@ -19,7 +19,7 @@ use Rattle.tree.specs.Bridge.{rowFor, nodeFor, Cell, cells, cellsOf, Stands, Ho
 use Rattle.tree.proofs.Cells.{agree-items, used-tree, cells-append, turned-cells, cells-rest, cells-before, slots-turned}
 use Rattle.tree.proofs.Unused.{used-none}
 use Rattle.settle.specs.Settle.{inner, Settled}
-use Rattle.settle.proofs.Parents.{rows-same, unused-rows}
+use Rattle.settle.proofs.Parents.{unused-rows}
 
 -- A FAMILY is its children's own nodes and what stands below them. So a step that keeps the joined items has only own nodes to show.
 module _ (ms : List S.Node) (h : ℕ) where
@@ -115,7 +115,7 @@ module _ (h s : ℕ) (ns ms : List S.Node) (b olds news a : List (Tree h)) (us :
         one (nth-rows ms (y .slot) s l (λ e. absurd (omega (arith, z, hit-same s (y .slot) (sym e)))) ∙ o) (news-own ys os (omega (arith, z)))
 
     top : nth ls s ≡ nodeFor (suc h) (inner h s (reverseAux b (news ++ a)))
-    top = rows-same ms s l inside ∙ (λ j. record { kind = ap (λ (n : S.Node). n .kind) (parent ∙ all-head holds) j; rows = rows j })
+    top = nth-put ms s l inside ∙ (λ j. record { kind = ap (λ (n : S.Node). n .kind) (parent ∙ all-head holds) j; rows = rows j })
 
     blank-new : Blank ls
     blank-new x z = by (ℕ-discrete x s)

@@ -7,15 +7,16 @@ use Prim.Native.Nat.{ℕ, _+_, _-_, _≤_, _<_}
 use native.Mathlib.Omega.{arith}
 use native.Mathlib.Decide.{decLt}
 use lib.Dec.{ltb}
-use lib.ListN.{length, length-append, length-take, length-drop, length-reverseAux}
+use lib.ListN.{length, length-reverseAux}
 use borrow.Author.Tests.{lt-ltb, le-ltb, le-leb, lt-leb, not-true, not-false}
 use Rattle.slots.specs.Nodes.{nodes, rowsAt}
 use Rattle.model.specs.declared.Settings.{Settings}
 use Rattle.model.specs.Lists.{one}
 use Rattle.model.specs.Tree.{Node, Tree, len, lowest, others}
 use Rattle.model.specs.Share.{Row, Place, full, halved, shareBack, shareOn, splitOver, shareNext, shareOut, followed, stay, stepBack}
-use Rattle.model.specs.Sound.{InLimits, Stocked}
+use Rattle.model.specs.Sound.{InLimits}
 use Rattle.model.proofs.Lists.{all-head, all-tail}
+use Rattle.model.proofs.Settles.{on-stocked, back-stocked}
 use Rattle.tree.specs.Bridge.{unusedOf}
 use Rattle.model.specs.Change.{settle}
 use Rattle.settle.specs.Settle.{resultIs, kidsAt, childAt, afterAt, Settled, Low, Ended}
@@ -97,15 +98,6 @@ module _ (st : Settings) {X : Type 0} where
       → shareOut st (p ∷ b) c a us ≡ stepBack (shareBack st p c .lower ∷ b) (shareNext st (shareBack st p c .upper) a us)
   out-back b p c a us q = rw (not-true (full st p) q) refl
 
-  -- the nodes that take items stay stocked
-  lower-stocked : (p c : Node X) → Stocked st p → Stocked st (shareBack st p c .lower)
-  lower-stocked p c g =
-      record { some = simp (length-append, length-take) (omega (arith, g .some, g .few)); few = simp (length-append, length-take) (omega (arith, g .some, g .few)) }
-
-  upper-stocked : (c n : Node X) → st .order < len c → Stocked st n → Stocked st (shareOn st c n .upper)
-  upper-stocked c n lt g =
-      record { some = simp (length-append, length-drop) (omega (arith, g .some, g .few)); few = simp (length-append, length-drop) (omega (arith, g .some, g .few)) }
-
 -- A CHILD THAT FITS stays, one that does not is split
 
 module _ {st : Settings} {W : List ℕ} {h s i low k : ℕ} {b : List (Tree h)} {c : Tree h} {a : List (Tree h)} (t : Poise st W h s i low k b c a) where
@@ -152,7 +144,7 @@ module _ {st : Settings} {W : List ℕ} {h s i low k : ℕ} {b : List (Tree h)} 
         family = f;
         at = t .at;
         stocked-before = t .stocked-before;
-        stocked-after = one (upper-stocked st c n over (all-head (t .stocked-after))) (all-tail (t .stocked-after));
+        stocked-after = one (on-stocked st limits c n over (all-head (t .stocked-after))) (all-tail (t .stocked-after));
         few = omega (
           arith,
           t .few,
@@ -231,7 +223,7 @@ module _ {st : Settings} {W : List ℕ} {h s i low k : ℕ} {b : List (Tree h)} 
       record {
         family = f;
         at = t .at;
-        stocked-before = one (lower-stocked st p c (all-head (t .stocked-before))) (all-tail (t .stocked-before));
+        stocked-before = one (back-stocked st (t .family .held .shape .limits) p c (all-head (t .stocked-before))) (all-tail (t .stocked-before));
         stocked-after = t .stocked-after;
         few = omega (
           arith,

@@ -18,12 +18,13 @@ use Rattle.model.proofs.Trees.{joined, back, back-joined, own, slotsIn}
 use Rattle.tree.specs.Bridge.{rowFor, nodeFor, unusedOf}
 use Rattle.tree.specs.Bridge as T
 use Rattle.tree.proofs.Cells.{cells-rest, kind-used}
+use Rattle.tree.proofs.Unused.{used-in}
 use Rattle.settle.specs.Settle.{inner, kidsAt, Settled}
 use Rattle.settle.specs.Weigh.{rowOver, Sits, RenewsTwo, renewedTwo}
 use Rattle.settle.specs.Steps.{Bounded, Family, Beside, Came}
 use Rattle.settle.proofs.Weights.{row-over, sums-fit, bounded-left, bounded-right}
 use Rattle.settle.proofs.Zips.{set-turned, map-turned}
-use Rattle.settle.proofs.Places.{used-in, node-used, family-rows, family-long, parent-in, came-kids}
+use Rattle.settle.proofs.Places.{node-used, family-rows, family-long, parent-in, came-kids}
 use Rattle.settle.proofs.Recast.{Own, owns, family-counts, recast-settles, then-settled}
 use Rattle.settle.proofs.Puts.{put-first, put-second, put-other, length-put, unused-put, blank-set}
 

@@ -16,23 +16,15 @@ use Rattle.tree.specs.Bridge.{childRow, rowFor}
 use Rattle.tree.specs.Sums.{sumRows, Sums}
 use Rattle.tree.proofs.Sums as T
 use Rattle.tree.proofs.Sums.{rows-total}
+use Rattle.tree.proofs.Keys.{row-keys}
 use Rattle.settle.specs.Weigh.{lastKey, rowOver}
 use Rattle.settle.specs.Steps.{Bounded}
 
 -- THE ROW OF A TREE
 
-row-key : (h : ℕ) (x : Item h) → rowFor h x .key ≡ greatestKey h x
-row-key zero e = refl
-row-key (suc h) n = refl
-
-keys-same : (h : ℕ) (xs : List (Item h)) → map (λ (r : Row). r .key) (map (rowFor h) xs) ≡ map (greatestKey h) xs
-keys-same h [] = refl
-keys-same h (x ∷ xs) =
-    ap (λ (k : ℕ). k ∷ map (λ (r : Row). r .key) (map (rowFor h) xs)) (row-key h x) ∙ ap (λ (ks : List ℕ). greatestKey h x ∷ ks) (keys-same h xs)
-
 pub row-over : (h : ℕ) (n : Tree h) → length (flat h (n .items)) < 1048576 → rowOver h (n .slot) (map (rowFor h) (n .items)) ≡ rowFor (suc h) n
 row-over h n few =
-    ap (λ (ks : List ℕ). childRow (lastOf ks) (n .slot) (sumRows h (map (rowFor h) (n .items)))) (keys-same h (n .items))
+    ap (λ (ks : List ℕ). childRow (lastOf ks) (n .slot) (sumRows h (map (rowFor h) (n .items)))) (row-keys h (n .items))
     ∙ ap (childRow (greatestKey (suc h) n) (n .slot)) (rows-total h (n .items) few)
 
 -- SUMS FIT

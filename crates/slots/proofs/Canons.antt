@@ -83,12 +83,13 @@ module _ (st : Settings) (W : List ℕ) (s : ℕ) where
 -- ---- all slots
 
 -- past the last slot there are unused ones
-each-slot : (st : Settings) (W : List ℕ) → ((s : ℕ) → s < st .nodes → Canon (st .order) (rawAt st W s)) → (s : ℕ) → Dec (s < st .nodes) → Canon (st .order) (rawAt st W s)
+pub past-raw : (st : Settings) (W : List ℕ) (s : ℕ) → (s < st .nodes → ⊥) → rawAt st W s ≡ rawFor (st .order) unused
 unfolding rawAt
+past-raw st W s h = List·getD-eq-default (slots st W) (rawOf (st .order) []) (omega (arith, length-slots st W)) ∙ raw-empty (st .order)
+
+each-slot : (st : Settings) (W : List ℕ) → ((s : ℕ) → s < st .nodes → Canon (st .order) (rawAt st W s)) → (s : ℕ) → Dec (s < st .nodes) → Canon (st .order) (rawAt st W s)
 each-slot st W c s (yes h) = c s h
-each-slot st W c s (no h) =
-    canon-unused (st .order) (rawAt st W s)
-    (List·getD-eq-default (slots st W) (rawOf (st .order) []) (omega (arith, length-slots st W)) ∙ raw-empty (st .order))
+each-slot st W c s (no h) = canon-zero st W s (past-raw st W s h)
 
 -- a pool whose slots are in order is
 pub held-each : (st : Settings) (W : List ℕ) → Shape st W → ((s : ℕ) → s < st .nodes → Canon (st .order) (rawAt st W s)) → Held st W

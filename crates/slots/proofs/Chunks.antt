@@ -7,13 +7,10 @@ use native.Mathlib.Omega.{arith}
 use mathlib.Core.List.{List, [], _∷_, _++_}
 use lib.ListN.{length, take, drop, getD, set, length-append, length-drop}
 use lib.Seq.{take-append-le, drop-append-le, drop-drop, length-take-le, take-all}
+use Rattle.words.proofs.Laws.{nil-of-length}
 use Rattle.slots.specs.Over.{over, part}
 use Rattle.slots.specs.Slots.{chunks}
 use Rattle.slots.proofs.Over.{over-seam, part-seam, split3, over-inside, length-part, length-over, set-over}
-
-pub nil-of-length : (l : List ℕ) → length l ≡ 0 → l ≡ []
-nil-of-length [] e = refl
-nil-of-length (x ∷ l) e = absurd (omega arith)
 
 module _ (S : ℕ) where
   -- ---- pieces one after the other

@@ -1,19 +1,33 @@
--- The laws of `specs/Search.antt`: how many keys are below a key, what a search finds there, and what keeps the slots below one in use.
--- Assumes nothing.
+-- The laws of `specs/Search.antt`: which rows can be searched, how many keys are below a key, what a search finds there, and what keeps the slots
+-- below one in use. Assumes nothing.
 use mathlib.Core.Path.{_≡_, ap}
 use mathlib.Core.Logic.{_≢_}
 use Prim.Native.Nat.{ℕ, zero, suc, _+_, _≤_, _<_}
-use native.Mathlib.Nat.{le-of-suc-le-suc}
+use native.Mathlib.Nat.{not-suc-le-zero, le-of-suc-le-suc}
 use native.Mathlib.Decide.{decLt, ℕ-discrete}
 use native.Mathlib.Omega.{arith}
-use mathlib.Core.List.{List, [], _∷_}
+use mathlib.Core.List.{List, [], _∷_, map}
 use lib.ListN.{length, set}
 use lib.Seq.{set-out, getD-set-same, getD-set-other}
 use borrow.Author.Tests.{lt-ltb, le-ltb, eq-eqb, ne-eqb}
+use Rattle.model.specs.Lists.{All, one, Ordered, cons}
 use Rattle.slots.specs.declared.Row.{Row}
 use Rattle.slots.specs.declared.Found.the-variants.{At, Before}
 use Rattle.slots.specs.Nodes.{Node, unused, nth}
 use Rattle.slots.specs.Search.{keyAt, Ascending, pick, below, findRow, Below}
+
+-- ---- rows that can be searched
+
+over-at : (k : ℕ) (l : List Row) → All (λ x. k < x) (map (λ r. r .key) l) → (j : ℕ) → j < length l → k < keyAt l j
+over-at k [] o j h = absurd (not-suc-le-zero h)
+over-at k (r ∷ l) (one g gs) zero h = g
+over-at k (r ∷ l) (one g gs) (suc j) h = over-at k l gs j (le-of-suc-le-suc h)
+
+pub ordered-rows : (l : List Row) → Ordered (λ x y. x < y) (map (λ r. r .key) l) → Ascending l
+ordered-rows [] s i j h g = absurd (not-suc-le-zero g)
+ordered-rows (r ∷ l) (cons o s) i zero h g = absurd (not-suc-le-zero h)
+ordered-rows (r ∷ l) (cons o s) zero (suc j) h g = over-at (r .key) l o j (le-of-suc-le-suc g)
+ordered-rows (r ∷ l) (cons o s) (suc i) (suc j) h g = ordered-rows l s i j (le-of-suc-le-suc h) (le-of-suc-le-suc g)
 
 -- ---- how many keys are below k
 

@@ -16,7 +16,7 @@ use Rattle.slots.specs.Slots.{chunks, rowsOf, width, Raw, rawOf, slots, 
 use Rattle.slots.specs.Nodes.{Node, unused, nodeOf, nodes, nth, pad, rawFor, Canon, Held}
 use Rattle.slots.specs.Header.{headerOf}
 use Rattle.slots.specs.Image.{flatRows, block, image}
-use Rattle.slots.proofs.Chunks.{nil-of-length}
+use Rattle.words.proofs.Laws.{nil-of-length}
 use Rattle.slots.proofs.Pads.{length-pad}
 use Rattle.slots.proofs.Nodes.{node-back, canon-for}
 use Rattle.slots.proofs.Canons.{raw-empty, held-each}

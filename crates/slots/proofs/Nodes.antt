@@ -6,8 +6,8 @@ use Prim.Native.Nat.{ℕ, _+_, _-_, _*_, _≤_, _<_}
 use native.Mathlib.Decide.{ℕ-discrete}
 use native.Mathlib.Omega.{arith}
 use mathlib.Core.List.{List, [], _∷_, _++_, map, append-nil}
-use lib.ListN.{length, take, drop, getD, set, replicate, length-map, length-set, length-drop, List·getD-map, List·getD-append}
-use lib.Seq.{getD-set-same, getD-set-other, set-set, take-length, drop-length, take-all}
+use lib.ListN.{length, take, drop, getD, set, replicate, length-map, length-set, List·getD-map, List·getD-append}
+use lib.Seq.{getD-set-same, getD-set-other, set-getD, set-set, take-length, drop-length}
 use Rattle.model.specs.declared.Settings.{Settings}
 use Rattle.slots.specs.declared.Row.{Row}
 use Rattle.slots.specs.Over.{over, part}
@@ -199,6 +199,20 @@ nth-kind ns s t k ne = getD-set-other ns t s (record { kind = k; rows = nth ns t
 pub nth-same : (ns : List Node) (s : ℕ) (n : Node) → s < length ns → nth (set ns s n) s ≡ n
 nth-same ns s n h = getD-set-same ns s n unused h
 
+-- the rows of one node: put as they are, put and read, and put again
+pub put-same : (ns : List Node) (s : ℕ) → putRows ns s (nth ns s .rows) ≡ ns
+unfolding putRows
+put-same ns s = set-getD ns s unused
+
+pub nth-put : (ns : List Node) (s : ℕ) (l : List Row) → s < length ns → nth (putRows ns s l) s ≡ withRows (nth ns s) l
+unfolding putRows
+nth-put ns s l h = nth-same ns s (withRows (nth ns s) l) h
+
+pub put-put : (ns : List Node) (s : ℕ) (l m : List Row) → s < length ns → putRows (putRows ns s l) s m ≡ putRows ns s m
+unfolding putRows
+put-put ns s l m h =
+    ap (λ (n : Node). set (putRows ns s l) s (withRows n m)) (nth-put ns s l h) ∙ set-set ns s (withRows (nth ns s) l) (withRows (nth ns s) m)
+
 -- the rows of a node change, and those of another after it
 pub rows-rows : (f : List Row → List Row) (ns : List Node) (s t : ℕ) (l l′ m : List Row) → s ≢ t → l ≡ l′ → f (nth ns s .rows) ≡ m
     → putRows (putRows ns t l) s (f (nth (putRows ns t l) s .rows)) ≡ put2 ns t (withRows (nth ns t) l′) s (withRows (nth ns s) m)
@@ -224,7 +238,3 @@ last-out l k a e = rw (e, drop-length l, append-nil (take k l))
 pub first-part : (l : List Row) (a : ℕ) → part l 0 a ≡ take a l
 unfolding part
 first-part l a = refl
-
-pub last-part : (l : List Row) (k a : ℕ) → k + a ≡ length l → part l k a ≡ drop k l
-unfolding part
-last-part l k a e = take-all a (drop k l) (omega (arith, length-drop k l))

@@ -43,9 +43,9 @@ pad-by m j l h =
     let e : j ≡ m - length l = omega arith in
     ap (λ (i : ℕ). l ++ replicate i blank) e
 
-rest-of : (i k : ℕ) (l : List Row) → i + k ≡ length l → part l i k ≡ drop i l
+pub last-part : (l : List Row) (i k : ℕ) → i + k ≡ length l → part l i k ≡ drop i l
 unfolding part
-rest-of i k l h = take-all k (drop i l) (omega (arith, length-drop i l))
+last-part l i k h = take-all k (drop i l) (omega (arith, length-drop i l))
 
 pub length-putIn : (l : List Row) (i : ℕ) (new : List Row) → i ≤ length l → length (putIn l i new) ≡ length l + length new
 length-putIn l i new h = simp (length-append, length-drop) (omega (arith, length-take-le i l h))
@@ -73,7 +73,7 @@ opened m i a n l new en h e g =
     ∙ take-take i (i + a) L (omega arith) ∙ take-pad m i l (omega arith) in
     let last : drop (i + a) (take (i + a) L ++ B ++ D) ≡ drop i l ++ replicate (m - (i + a + (n - i))) blank =
     ap (drop (i + a)) (append-assoc (take (i + a) L) B D) ∙ drop-at (take (i + a) L) (B ++ D) (i + a) head
-    ∙ ap (_++ D) (part-pad m i (n - i) l (omega arith) ∙ rest-of i (n - i) l (omega arith))
+    ∙ ap (_++ D) (part-pad m i (n - i) l (omega arith) ∙ last-part l i (n - i) (omega arith))
     ∙ ap (drop i l ++_) (drop-pad m (i + a + (n - i)) l (omega arith) (omega arith)) in
     ap (λ (r : List Row). r ++ new ++ drop (i + a) (take (i + a) L ++ B ++ D)) first
     ∙ ap (λ (r : List Row). take i l ++ new ++ r) last
@@ -99,7 +99,7 @@ closed m i a n l en h g =
     let first : take (n - a) (take i L ++ B ++ D) ≡ without l i a =
     take-at (take i L ++ B) D (n - a) head
     ∙ ap (_++ B) (take-pad m i l (omega arith))
-    ∙ ap (take i l ++_) (part-pad m (i + a) (n - (i + a)) l (omega arith) ∙ rest-of (i + a) (n - (i + a)) l (omega arith)) in
+    ∙ ap (take i l ++_) (part-pad m (i + a) (n - (i + a)) l (omega arith) ∙ last-part l (i + a) (n - (i + a)) (omega arith)) in
     let s : n - a + a ≡ length (take i (pad m l) ++ part (pad m l) (i + a) (n - (i + a))) + a = omega arith in
     let d : i + (n - (i + a)) + a ≡ n = omega arith in
     let last : drop (n - a + a) (take i L ++ B ++ D) ≡ replicate (m - n) blank =

@@ -11,7 +11,8 @@ use Rattle.model.specs.declared.Settings.{Settings}
 use Rattle.slots.specs.declared.Row.{Row}
 use Rattle.slots.specs.Over.{part}
 use Rattle.slots.specs.Nodes.{Node, unused, nodes, nth, rowsAt, putRows, putKind, Now, putIn, without, put2, withRows, splitNodes, backNodes, forwardNodes, joinNodes}
-use Rattle.slots.proofs.Nodes.{length-nodes, nth-rows, nth-kind, nth-same, rows-rows, at-end, first-out, last-out, first-part, last-part}
+use Rattle.slots.proofs.Pads.{last-part}
+use Rattle.slots.proofs.Nodes.{length-nodes, nth-rows, nth-kind, nth-same, nth-put, rows-rows, at-end, first-out, last-out, first-part}
 
 -- ---- what another node keeps, over the pool
 
@@ -27,6 +28,11 @@ module _ (st : Settings) (W₀ W : List ℕ) (s t : ℕ) where
   kept-same k w h =
       ap (λ (ns : List Node). nth ns t .rows) (w .is)
       ∙ ap (λ (n : Node). n .rows) (nth-same (nodes st W₀) t (record { kind = k; rows = rowsAt st W₀ t }) (omega (arith, length-nodes st W₀)))
+
+-- and the rows that are put are there
+pub own-rows : (st : Settings) (W₀ W : List ℕ) (s : ℕ) (l : List Row) → Now st W₀ W (putRows (nodes st W₀) s l) → s < st .nodes → rowsAt st W s ≡ l
+own-rows st W₀ W s l w h =
+    ap (λ (ns : List Node). nth ns s .rows) (w .is) ∙ ap (λ (n : Node). n .rows) (nth-put (nodes st W₀) s l (omega (arith, length-nodes st W₀)))
 
 -- ---- what the calls leave
 

@@ -18,7 +18,7 @@ use Rattle.slots.specs.Nodes.{unused, pad, rawFor}
 use Rattle.slots.specs.Image.{flatRows, block}
 use Rattle.slots.proofs.Over.{length-part}
 use Rattle.slots.proofs.Raws.{zero-rows, rows-part, raw-words}
-use Rattle.slots.proofs.Nodes.{last-part}
+use Rattle.slots.proofs.Pads.{last-part}
 use Rattle.slots.proofs.Canons.{length-cells}
 use Rattle.slots.proofs.Images.{flat-rows, block-back, raw-back}
 

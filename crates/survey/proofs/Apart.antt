@@ -10,6 +10,7 @@ use borrow.Author.Tests.{eq-eqb, ne-eqb}
 use Rattle.slots.specs.declared.Row.{Row}
 use Rattle.slots.specs.Nodes.{nth}
 use Rattle.slots.specs.Nodes as S
+use Rattle.slots.proofs.Over.{map-append}
 use Rattle.model.specs.declared.Entry.{Entry}
 use Rattle.model.specs.declared.Settings.{Settings}
 use Rattle.model.specs.Lists.{hit, times, All, none, one, nil, cons}
@@ -29,8 +30,7 @@ abbrev keysOf : List Entry → List ℕ
 keysOf es = map (λ e. e .key) es
 
 keys-append : (k : ℕ) (a b : List Entry) → times k (keysOf (a ++ b)) ≡ times k (keysOf a) + times k (keysOf b)
-keys-append k [] b = omega arith
-keys-append k (e ∷ a) b = omega (arith, keys-append k a b)
+keys-append k a b = ap (times k) (map-append (λ (e : Entry). e .key) a b) ∙ times-append k (keysOf a) (keysOf b)
 
 -- above k there is no k
 keys-none : (k : ℕ) {es : List Entry} → All (λ e. k < e .key) es → times k (keysOf es) ≡ 0

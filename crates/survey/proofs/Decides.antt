@@ -15,7 +15,7 @@ use Rattle.slots.specs.Nodes.{nodes, nth, unused, rawFor}
 use Rattle.slots.specs.Nodes as S
 use Rattle.slots.proofs.Raws.{base-of}
 use Rattle.slots.proofs.Nodes.{length-nodes}
-use Rattle.slots.proofs.Canons.{canon-zero, canon-count}
+use Rattle.slots.proofs.Canons.{canon-zero, canon-count, past-raw}
 use Rattle.slots.proofs.Zeros.{tail-tells, slot-tells}
 use Rattle.model.specs.declared.Entry.{Entry}
 use Rattle.model.specs.declared.Settings.{Settings}
@@ -32,7 +32,6 @@ use Rattle.survey.specs.Surveyed.{Headed}
 use Rattle.survey.specs.Spared.{Idle}
 use Rattle.survey.specs.Checked.{unmet, Tail, Right, leastRoot, SoundTree}
 use Rattle.survey.proofs.Heads.{tail-told}
-use Rattle.survey.proofs.Sweeps.{past-raw}
 use Rattle.survey.proofs.Verdicts.{unused-few, right-sound, sound-full, sound-right, sound-pool, pool-headed, pool-idle, pool-tree}
 
 -- OF DECISIONS

@@ -2,11 +2,10 @@
 use mathlib.Core.Path.{_≡_, refl, sym, ap, _∙_, subst}
 use mathlib.Core.Bool.{Bool}
 use mathlib.Core.List.{List, [], _∷_}
-use Prim.Native.Nat.{ℕ, zero, suc, _+_, _-_, _*_, _≤_, _<_, min}
+use Prim.Native.Nat.{ℕ, zero, suc, _-_, _*_, _≤_, _<_, min}
 use native.Mathlib.Omega.{arith}
-use native.Mathlib.Numerals.{add-one}
 use lib.ListN.{length, take, drop, getD, replicate, length-take}
-use lib.Seq.{getD-take, drop-cons, take-suc, take-all}
+use lib.Seq.{getD-take}
 use Rattle.slots.specs.declared.Row.{Row}
 use Rattle.slots.specs.Slots.{blank, rawAt}
 use Rattle.slots.specs.Nodes.{nodeOf, nodes, rowsAt}
@@ -15,8 +14,6 @@ use Rattle.slots.proofs.Nodes.{node-raw}
 use Rattle.slots.proofs.Canons.{length-cells, canon-tail, canon-blank}
 use Rattle.model.specs.declared.Settings.{Settings}
 use Rattle.model.specs.Answer.{Tells}
-use Rattle.model.specs.Lists.{All, none, one}
-use Rattle.model.proofs.Lists.{all-append, all-drop, all-head}
 use Rattle.tree.specs.Bridge.{childOf}
 use Rattle.tree.specs.Pool.{firstChild}
 use Rattle.survey.specs.Checked.{Tail}
@@ -51,17 +48,6 @@ first-raw st W s wide some =
 -- a count of at most order is the number of rows
 pub head-count : (st : Settings) (W : List ℕ) (s : ℕ) → 4 ≤ st .order → length (rowsAt st W s) ≤ st .order → rawAt st W s .count ≡ length (rowsAt st W s)
 head-count st W s wide few = omega (arith, rows-count st W s)
-
--- WHAT HOLDS OF EACH ROW holds of the row at i; of the first i + 1 if of the first i and of that; and of all if of as many as there are
-module _ {P : Row → Type 0} (rs : List Row) (i : ℕ) where
-  pub all-at : i < length rs → All P rs → P (getD rs i blank)
-  all-at lt h = all-head (subst (All P) (drop-cons rs i blank lt) (all-drop i h))
-
-  pub all-more : i < length rs → All P (take i rs) → P (getD rs i blank) → All P (take (i + 1) rs)
-  all-more lt h g = rw (add-one i, take-suc rs i blank lt) (all-append h (one g none))
-
-  pub all-past : length rs ≤ i → All P (take i rs) → All P rs
-  all-past le h = subst (All P) (take-all i rs le) h
 
 -- the test of the rows past the count tells of the tail
 pub tail-told : (st : Settings) (W : List ℕ) (s n : ℕ) (r : Bool) → n ≡ rawAt st W s .count → n ≤ 2 * st .order

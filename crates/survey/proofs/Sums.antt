@@ -10,11 +10,10 @@ use Rattle.model.specs.declared.Totals.{Totals}
 use Rattle.model.specs.Lists.{All}
 use Rattle.model.specs.Tree.{Tree, entries, total, isLive, adds, plus, noTotals}
 use Rattle.model.specs.Sound.{Fits}
-use Rattle.model.proofs.Trees.{total-list}
+use Rattle.model.proofs.Trees.{total-list, sizes-few}
 use Rattle.tree.specs.Bridge.{childTotals}
 use Rattle.tree.specs.Sums.{Addable}
 use Rattle.tree.proofs.ReadOff.{total-count}
-use Rattle.tree.proofs.Sums.{sizes-few}
 
 -- BOUNDS
 

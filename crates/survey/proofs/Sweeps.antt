@@ -2,18 +2,18 @@
 use mathlib.Core.Path.{_≡_, refl, sym, ap, _∙_, subst}
 use mathlib.Core.Logic.{_≢_}
 use mathlib.Core.Bool.{true}
-use mathlib.Core.List.{List, [], _∷_}
+use mathlib.Core.List.{List, _∷_}
 use Prim.Native.Nat.{ℕ, suc, _+_, _-_, _≤_, _<_}
 use native.Mathlib.Omega.{arith}
 use native.Mathlib.Decide.{decLt, ℕ-discrete}
-use lib.ListN.{length, drop, drop-of-length-le, List·getD-eq-default}
+use lib.ListN.{length, drop, drop-of-length-le}
 use lib.Seq.{drop-cons}
 use borrow.Author.Tests.{eq-eqb, ne-eqb}
-use Rattle.slots.specs.Slots.{rawOf, slots, rawAt}
+use Rattle.slots.specs.Slots.{rawAt}
 use Rattle.slots.specs.Nodes.{nodes, nth, unused, rawFor}
 use Rattle.slots.specs.Nodes as S
-use Rattle.slots.proofs.Nodes.{kind-node, length-slots, length-nodes}
-use Rattle.slots.proofs.Canons.{raw-empty}
+use Rattle.slots.proofs.Nodes.{kind-node, length-nodes}
+use Rattle.slots.proofs.Canons.{past-raw}
 use Rattle.model.specs.declared.Settings.{Settings}
 use Rattle.tree.specs.Bridge.{unusedFrom}
 use Rattle.survey.specs.Spared.{Idle, Spared}
@@ -87,11 +87,6 @@ module _ (st : Settings) (W : List ℕ) where
         by kind t le lt (yes e) = rw (sym e) kind
         by kind t le lt (no ne) = g .before t (omega arith) lt
 
-  -- past the last slot there are unused ones
-  pub past-raw : (t : ℕ) → (t < st .nodes → ⊥) → rawAt st W t ≡ rawFor (st .order) unused
-  unfolding rawAt
-  past-raw t ge = List·getD-eq-default (slots st W) (rawOf (st .order) []) (omega (arith, length-slots st W)) ∙ raw-empty (st .order)
-
   -- at slot 0 every slot has been seen
   pub swept-end : (free least s : ℕ) → s ≤ 0 → Swept st W free least s → Spared st W (record { ok = true; unused = free; low = least })
   swept-end free least s z g =
@@ -111,4 +106,4 @@ module _ (st : Settings) (W : List ℕ) where
         where
           by : Dec (t < st .nodes) → Idle st W t
           by (yes lt) = g .idle t (omega arith) lt
-          by (no ge) = λ q. past-raw t ge
+          by (no ge) = λ q. past-raw st W t ge

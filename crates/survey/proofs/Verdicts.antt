@@ -7,7 +7,7 @@ use Prim.Native.Nat.{ℕ, zero, suc, _+_, _-_, _≤_, _<_}
 use native.Mathlib.Omega.{arith}
 use native.Mathlib.Decide.{decLt, ℕ-discrete}
 use lib.Dec.{ltb, eqb}
-use lib.ListN.{length, length-append, List·getD-eq-default}
+use lib.ListN.{length, length-append}
 use borrow.Author.Tests.{lt-ltb, le-ltb, eqb-true, eq-eqb}
 use Rattle.words.specs.Words.{words}
 use Rattle.slots.specs.Nodes.{nth, unused, nodes, rawFor}
@@ -22,14 +22,13 @@ use Rattle.model.specs.Tree.{Tree, len, slots, entriesOf, slotsOf}
 use Rattle.model.specs.Sound.{Whole, Rooted, Once}
 use Rattle.model.proofs.Answers.{tells-no, tells-yes, tells-unique}
 use Rattle.model.proofs.Lists.{all-every, by-test, times-append}
-use Rattle.model.proofs.Trees.{once-count, slots-leaf}
+use Rattle.model.proofs.Trees.{once-count, slots-leaf, root-few}
 use Rattle.tree.specs.Bridge.{treeAt, unusedFrom, unusedOf, Holds}
 use Rattle.tree.specs.Pool.{heightAt, indexIn, settingsIn, nodesIn, indexOf, Zeros, SoundNodes, SoundPool}
 use Rattle.tree.proofs.Counts.{times-all}
 use Rattle.tree.proofs.Cells.{used-tree}
-use Rattle.tree.proofs.Few.{root-few}
 use Rattle.tree.proofs.SoundHolds.{read-holds}
-use Rattle.tree.proofs.Unused.{used-none, unused-past, unused-once}
+use Rattle.tree.proofs.Unused.{used-in, used-none, unused-past, unused-once}
 use Rattle.survey.specs.declared.Findings.{Findings}
 use Rattle.survey.specs.declared.walk.Part.{Part}
 use Rattle.survey.specs.Surveyed.{Surveyed, Headed, unsound}
@@ -86,7 +85,7 @@ module _ (st : Settings) (W : List ℕ) (h used : ℕ) (counted : used + length 
       past = omega (arith, length-nodes st W)
 
       by : Dec (0 < times x reached) → times x both ≡ 0
-      by (yes some) = absurd (in-use x some (ap (λ (n : S.Node). n .kind) (List·getD-eq-default ns unused past)))
+      by (yes some) = absurd (omega (arith, used-in ns x (in-use x some), past))
       by (no none) = omega (arith, times-append x reached (unusedOf ns), unused-past ns x past)
 
   reached-once : Once (st .nodes) reached (unusedOf ns)
@@ -191,15 +190,13 @@ all-zeros st W idle t s = by (ℕ-discrete (nth (nodes st W) s .kind) 0)
   where
     by : Dec (nth (nodes st W) s .kind ≡ 0) → Zeros st W s
     by (yes z) = record { tail = canon-zero st W s (idle s z); whole = λ q. zero-unused st W s (idle s z) }
-    by (no used) = record { tail = times-all (Tail st W) (t .tails) s (reached (decLt s (st .nodes))); whole = λ q. absurd (used q) }
+    by (no used) = record { tail = times-all (Tail st W) (t .tails) s reached; whole = λ q. absurd (used q) }
       where
-        reached : Dec (s < st .nodes) → 0 < times s (slotsOf (indexIn (nodes st W)))
-        reached (yes lt) =
+        reached : 0 < times s (slotsOf (indexIn (nodes st W)))
+        reached =
+            let lt : s < st .nodes = omega (arith, used-in (nodes st W) s used, length-nodes st W) in
             let one : times s (slotsOf (indexIn (nodes st W))) + times s (unusedOf (nodes st W)) ≡ 1 = t .sound .once s ∙ rw (lt-ltb s (st .nodes) lt) refl in
             omega (arith, used-none (nodes st W) s used)
-        reached (no ge) =
-            let past : length (nodes st W) ≤ s = omega (arith, length-nodes st W) in
-            absurd (used (ap (λ (n : S.Node). n .kind) (List·getD-eq-default (nodes st W) unused past)))
 
 pub sound-pool : (l : List ℕ) → Headed l → ((s : ℕ) → Idle (settingsIn l) (words l) s) → SoundTree (settingsIn l) (words l) → SoundPool l
 sound-pool l h idle t =

@@ -17,10 +17,9 @@ use Rattle.model.specs.declared.Settings.{Settings}
 use Rattle.model.specs.Lists.{All}
 use Rattle.model.specs.Tree.{Item, Tree, entries, slots, total, greatestKey, sumOf, plus}
 use Rattle.model.specs.Sound.{Whole}
-use Rattle.model.proofs.Trees.{flat, slotsIn, separator-ends}
+use Rattle.model.proofs.Trees.{flat, slotsIn, separator-ends, zero-plus, plus-zero, plus-assoc}
 use Rattle.tree.specs.Bridge.{entryOf, childOf, treeAt}
 use Rattle.tree.specs.Sums.{Addable}
-use Rattle.tree.proofs.Sums.{zero-plus, plus-zero, plus-assoc}
 use Rattle.survey.specs.declared.walk.Part.{Part}
 use Rattle.survey.specs.Checked.{Last, last, after, Head, Tail, Right, Checked, EntryRight, RowRight, begun, grown}
 use Rattle.survey.proofs.Ascents.{after-append, after-ends}
@@ -126,7 +125,7 @@ module _ (st : Settings) (W : List ℕ) (h : ℕ) (rs : List Row) where
                 (subst (λ (l : Last). RightRows st W h more l next) (sym key) k))));
             end = g .end ∙ ap (λ (l : List Row). after q (flat h (itemsAt ns h l))) here
                 ∙ after-append q (entries h x) (flat h (itemsAt ns h more)) ∙ ap (λ (l : Last). after l (flat h (itemsAt ns h more))) key;
-            totals = g .totals ∙ ap (λ (l : List Row). plus (part .totals) (sums ns h l)) here ∙ plus-assoc (part .totals) (total h x) (sums ns h more);
+            totals = g .totals ∙ ap (λ (l : List Row). plus (part .totals) (sums ns h l)) here ∙ sym (plus-assoc (part .totals) (total h x) (sums ns h more));
             rest =
                 let long : length (slotsIn h (itemsAt ns h (drop i rs))) ≡ length (slots h (itemAt ns h (getD rs i blank))) + length (slotsIn h (itemsAt ns h (drop (i + 1) rs))) =
                 ap (λ (l : List Row). length (slotsIn h (itemsAt ns h l))) here ∙ length-append (slots h x) (slotsIn h (itemsAt ns h more)) in

@@ -1,15 +1,16 @@
 -- A tree is what its own slots hold: the frame law, every node of it is in use, and no used slot is unused. Assumes nothing.
 use mathlib.Core.Path.{_≡_, refl, sym, ap, _∙_, subst}
 use mathlib.Core.Logic.{_≢_}
-use mathlib.Core.List.{List, [], _∷_, _++_, map, reverseAux, append-assoc}
+use mathlib.Core.List.{List, [], _∷_, _++_, map, reverseAux}
 use Prim.Native.Nat.{ℕ, zero, suc, _+_, _<_}
 use native.Mathlib.Omega.{arith}
 use native.Mathlib.Decide.{ℕ-discrete}
 use Rattle.slots.specs.Nodes.{nth}
 use Rattle.slots.specs.Nodes as S
+use Rattle.slots.proofs.Over.{map-append}
 use Rattle.model.specs.Lists.{times, All, none, one}
 use Rattle.model.specs.Tree.{Item, Tree, slots}
-use Rattle.model.proofs.Lists.{all-append, all-left, all-right, all-both, hit-same, hit-other, times-append}
+use Rattle.model.proofs.Lists.{all-append, all-left, all-right, all-both, parts-append, hit-same, hit-other, times-append}
 use Rattle.model.proofs.Trees.{slotsIn}
 use Rattle.tree.specs.Bridge.{kindFor, nodeFor, Cell, cells, cellsOf, Stands, Holds}
 
@@ -18,15 +19,11 @@ use Rattle.tree.specs.Bridge.{kindFor, nodeFor, Cell, cells, cellsOf, St
 abbrev pub places : List Cell → List ℕ
 places cs = map (λ c. c .slot) cs
 
-pub places-append : (a b : List Cell) → places (a ++ b) ≡ places a ++ places b
-places-append [] b = refl
-places-append (c ∷ a) b = ap (λ (l : List ℕ). c .slot ∷ l) (places-append a b)
-
 module _ (h : ℕ) (f : (i : Item h) → places (cells h i) ≡ slots h i) where
   list-places : (xs : List (Item h)) → places (cellsOf h xs) ≡ slotsIn h xs
   list-places [] = refl
   list-places (i ∷ xs) =
-      places-append (cells h i) (cellsOf h xs) ∙ ap (λ (l : List ℕ). l ++ places (cellsOf h xs)) (f i)
+      map-append (λ (c : Cell). c .slot) (cells h i) (cellsOf h xs) ∙ ap (λ (l : List ℕ). l ++ places (cellsOf h xs)) (f i)
       ∙ ap (λ (l : List ℕ). slots h i ++ l) (list-places xs)
 
 pub cell-places : (h : ℕ) (i : Item h) → places (cells h i) ≡ slots h i
@@ -37,8 +34,7 @@ pub items-places : (h : ℕ) (xs : List (Item h)) → places (cellsOf h xs) ≡ 
 items-places h xs = list-places h (cell-places h) xs
 
 pub cells-append : (h : ℕ) (xs ys : List (Item h)) → cellsOf h (xs ++ ys) ≡ cellsOf h xs ++ cellsOf h ys
-cells-append h [] ys = refl
-cells-append h (x ∷ xs) ys = ap (λ (l : List Cell). cells h x ++ l) (cells-append h xs ys) ∙ sym (append-assoc (cells h x) (cellsOf h xs) (cellsOf h ys))
+cells-append h xs ys = parts-append (cells h) xs ys
 
 -- of children in reverse
 module _ (P : Cell → Type 0) (h : ℕ) where

@@ -24,11 +24,6 @@ times-all P (one {x = y} {xs = l} h hs) x g = by (ℕ-discrete x y) (λ k. times
     by (yes e) again = subst P (sym e) h
     by (no ne) again = again (omega (arith, hit-other x y ne))
 
--- P holds of f of each
-pub all-of : {A B : Type 0} (P : B → Type 0) (f : A → B) {xs : List A} → All (λ x. P (f x)) xs → All P (map f xs)
-all-of P f none = none
-all-of P f (one h hs) = one h (all-of P f hs)
-
 -- TWO ASCENDING LISTS with the same numbers are one
 
 -- the first is the least

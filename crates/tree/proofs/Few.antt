@@ -1,6 +1,6 @@
 -- A sound index is small: at most 2 ^ 19 entries, and every slot of it is one of the pool's, taken once. Assumes nothing.
 use mathlib.Core.Path.{_≡_, _∙_}
-use Prim.Native.Nat.{ℕ, zero, suc, _+_, _≤_, _<_}
+use Prim.Native.Nat.{ℕ, _+_, _≤_, _<_}
 use native.Mathlib.Omega.{arith}
 use native.Mathlib.Decide.{decLt}
 use native.Mathlib.Nat.{le-trans, mul-le-mul}
@@ -8,16 +8,11 @@ use lib.ListN.{length}
 use borrow.Author.Tests.{lt-ltb, le-ltb}
 use Rattle.model.specs.declared.Settings.{Settings}
 use Rattle.model.specs.Lists.{times, All}
-use Rattle.model.specs.Tree.{Tree, Index, len, entriesOf, slotsOf}
-use Rattle.model.specs.Sound.{Rooted, Sound}
-use Rattle.model.proofs.Trees.{entries-few, once-count}
+use Rattle.model.specs.Tree.{Index, entriesOf, slotsOf}
+use Rattle.model.specs.Sound.{Sound}
+use Rattle.model.proofs.Trees.{root-few, entries-few, once-count}
 use Rattle.tree.specs.Bridge.{Apart}
 use Rattle.tree.proofs.Counts.{all-times}
-
--- the root has at most order items
-pub root-few : (st : Settings) (h : ℕ) (n : Tree h) → Rooted st h n → len n ≤ st .order
-root-few st zero n r = r
-root-few st (suc h) n r = r .1
 
 pub used-few : (st : Settings) (x : Index) → Sound st x → length (slotsOf x) ≤ 16384
 used-few st x s = omega (arith, once-count (st .nodes) (slotsOf x) (x .unused) (s .once), s .settings .bounded)

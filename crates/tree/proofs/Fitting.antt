@@ -1,6 +1,6 @@
 -- Every word of a sound index's image is below 2 ^ 64. Assumes nothing.
 use mathlib.Core.Path.{_≡_, ap}
-use mathlib.Core.List.{List, [], _∷_, _++_, map}
+use mathlib.Core.List.{List, [], _∷_, map}
 use Prim.Native.Nat.{ℕ, zero, suc, _+_, _-_, _*_, _^_, _≤_, _<_}
 use native.Mathlib.Omega.{arith}
 use lib.ListN.{length, getD, replicate, length-append, length-map}
@@ -13,15 +13,14 @@ use Rattle.model.specs.declared.Entry.{Entry}
 use Rattle.model.specs.declared.Totals.{Totals}
 use Rattle.model.specs.declared.Settings.{Settings}
 use Rattle.model.specs.Lists.{All, none, one}
-use Rattle.model.specs.Tree.{Item, Tree, Index, len, entries, slots, slotsOf, greatestKey, total}
+use Rattle.model.specs.Tree.{Item, Tree, Index, len, entries, slots, slotsOf, total}
 use Rattle.model.specs.Sound.{InLimits, Whole, Fits, Sound}
-use Rattle.model.proofs.Lists.{all-append, all-left, all-right, all-map, all-head}
-use Rattle.model.proofs.Trees.{flat, slotsIn, Ends, separator-ends, listTotals, total-list, totals-count}
+use Rattle.model.proofs.Lists.{all-append, all-left, all-right, all-map, all-of, all-head}
+use Rattle.model.proofs.Trees.{flat, slotsIn, listTotals, total-list, totals-count, sizes-few, root-few}
+use Rattle.model.proofs.Readable.{separator-has}
 use Rattle.tree.specs.Bridge.{kindFor, rowFor, nodeFor, Cell, cells, cellsOf}
 use Rattle.tree.specs.Pool.{nodesOf, wordsOf}
-use Rattle.tree.proofs.Counts.{all-of}
-use Rattle.tree.proofs.Sums.{sizes-few}
-use Rattle.tree.proofs.Few.{root-few, entries-most, slots-low}
+use Rattle.tree.proofs.Few.{entries-most, slots-low}
 use Rattle.tree.proofs.NodesOf.{nodesOf-have}
 
 -- WORDS
@@ -84,18 +83,16 @@ row-fits : (st : Settings) (h : ℕ) (i : Item h) → Part st h i → RowFits (r
 row-fits st zero e p = let f : Fits e = all-head (p .fit) in record { key = f .key; body = f .place; size = omega (arith, f .size) }
 row-fits st (suc h) n p =
     let es : List Entry = entries (suc h) n in
-    let ends : Ends (entries (suc h) n) (greatestKey (suc h) n) = separator-ends st (suc h) n (p .whole) in
-    let last : All Fits (ends .init ++ (ends .last ∷ [])) = rw (ends .whole) at (p .fit) in
     let sums : total (suc h) n ≡ listTotals (entries (suc h) n) = total-list (suc h) n in
     let both : listTotals (entries (suc h) n) .live + listTotals (entries (suc h) n) .dead ≡ length (entries (suc h) n) = totals-count es in
     record {
-      key = rw (ends .key) at (all-head (all-right (ends .init) (ends .last ∷ []) last) .key);
+      key = separator-has st (suc h) Word n (p .whole) (all-map (λ e f. f .key) (p .fit));
       body = omega (arith, all-head (p .low), p .few, ap (λ (t : Totals). t .live) sums, ap (λ (t : Totals). t .dead) sums);
       size = omega (arith, p .few, ap (λ (t : Totals). t .size) sums, sizes-few (p .fit));
     }
 
 rows-fit : (st : Settings) (h : ℕ) {xs : List (Item h)} → All (Part st h) xs → All RowFits (map (rowFor h) xs)
-rows-fit st h ps = all-of RowFits (rowFor h) (all-map (λ i p. row-fits st h i p) ps)
+rows-fit st h ps = all-of (rowFor h) (all-map (λ i p. row-fits st h i p) ps)
 
 -- CELLS
 

@@ -20,7 +20,7 @@ pub slot-read : (ns : List S.Node) (h s : ℕ) → treeAt ns h s .slot ≡ s
 slot-read ns zero s = refl
 slot-read ns (suc h) s = refl
 
-rows-again : (rs : List Row) → map entryRow (map entryOf rs) ≡ rs
+pub rows-again : (rs : List Row) → map entryRow (map entryOf rs) ≡ rs
 rows-again [] = refl
 rows-again (r ∷ rs) = ap (λ (l : List Row). r ∷ l) (rows-again rs)
 

@@ -14,34 +14,11 @@ use Rattle.model.specs.declared.Totals.{Totals}
 use Rattle.model.specs.Lists.{All, none, one}
 use Rattle.model.specs.Tree.{Item, Tree, entries, greatestKey, total, plus, sumOf, noTotals}
 use Rattle.model.specs.Sound.{Fits}
-use Rattle.model.proofs.Trees.{flat, listTotals, total-list, totals-count}
+use Rattle.model.proofs.Trees.{flat, listTotals, total-list, totals-count, sizes-few, plus-zero, plus-assoc}
 use Rattle.tree.specs.Bridge.{childTotals, rowTotals, rowFor}
 use Rattle.tree.specs.Sums.{sumRows, Addable, Sums}
 use Rattle.tree.proofs.Rows.{totals-back}
 use Rattle.tree.proofs.ReadOff.{Light, total-count}
-
--- ADDING
-
-pub zero-plus : (t : Totals) → plus noTotals t ≡ t
-zero-plus t =
-    let live : 0 + t .live ≡ t .live = omega arith in
-    let dead : 0 + t .dead ≡ t .dead = omega arith in
-    let size : 0 + t .size ≡ t .size = omega arith in
-    λ j. record { live = live j; dead = dead j; size = size j }
-
-pub plus-zero : (t : Totals) → plus t noTotals ≡ t
-plus-zero t =
-    let live : t .live + 0 ≡ t .live = omega arith in
-    let dead : t .dead + 0 ≡ t .dead = omega arith in
-    let size : t .size + 0 ≡ t .size = omega arith in
-    λ j. record { live = live j; dead = dead j; size = size j }
-
-pub plus-assoc : (a b c : Totals) → plus a (plus b c) ≡ plus (plus a b) c
-plus-assoc a b c =
-    let live : a .live + (b .live + c .live) ≡ a .live + b .live + c .live = omega arith in
-    let dead : a .dead + (b .dead + c .dead) ≡ a .dead + b .dead + c .dead = omega arith in
-    let size : a .size + (b .size + c .size) ≡ a .size + b .size + c .size = omega arith in
-    λ j. record { live = live j; dead = dead j; size = size j }
 
 -- TWO TOTALS are the same or not
 pub totals-discrete : (a b : Totals) → Dec (a ≡ b)
@@ -71,10 +48,6 @@ rows-total h (x ∷ xs) few =
 
 -- SUMS FIT
 
-pub sizes-few : {es : List Entry} → All Fits es → listTotals es .size ≤ length es * 4294967296
-sizes-few none = omega arith
-sizes-few (one {x = e} f fs) = omega (arith, f .size, sizes-few fs)
-
 pub sums-fit : (h : ℕ) (n : Tree h) → length (flat h (n .items)) < 1048576 → All Fits (flat h (n .items)) → Sums h (map (rowFor h) (n .items))
 sums-fit h n few fit =
     let e : sumRows h (map (rowFor h) (n .items)) ≡ listTotals (flat h (n .items)) = rows-total h (n .items) few ∙ total-list (suc h) n in
@@ -88,7 +61,7 @@ sums-fit h n few fit =
 pub sum-more : (h : ℕ) (rs : List Row) (t : Totals) (i : ℕ) → i < length rs
     → plus t (sumRows h (drop i rs)) ≡ plus (plus t (rowTotals h (getD rs i blank))) (sumRows h (drop (i + 1) rs))
 sum-more h rs t i g =
-    rw (drop-cons rs i blank g, add-one) (plus-assoc t (rowTotals h (getD rs i blank)) (sumRows h (drop (suc i) rs)))
+    rw (drop-cons rs i blank g, add-one) (sym (plus-assoc t (rowTotals h (getD rs i blank)) (sumRows h (drop (suc i) rs))))
 
 pub sum-fits : (h : ℕ) (rs : List Row) (t : Totals) (i : ℕ) → i < length rs → Sums h rs → plus t (sumRows h (drop i rs)) ≡ sumRows h rs
     → Addable t (rowTotals h (getD rs i blank))

@@ -6,9 +6,9 @@ use mathlib.Core.List.{List, [], _∷_}
 use Prim.Native.Nat.{ℕ, zero, suc, _+_, _≤_, _<_}
 use native.Mathlib.Omega.{arith}
 use native.Mathlib.Nat.{not-suc-le-zero, le-of-suc-le-suc}
-use native.Mathlib.Decide.{ℕ-discrete}
+use native.Mathlib.Decide.{decLt, ℕ-discrete}
 use lib.Dec.{eqb}
-use lib.ListN.{length, set}
+use lib.ListN.{length, set, List·getD-eq-default}
 use borrow.Author.Tests.{lt-ltb, le-ltb, eq-eqb, ne-eqb}
 use Rattle.slots.specs.Nodes.{nth, unused}
 use Rattle.slots.specs.Nodes as S
@@ -18,6 +18,14 @@ use Rattle.model.specs.Tree.{lowest, others, release}
 use Rattle.model.specs.Sound.{Ascending}
 use Rattle.model.proofs.Lists.{by-test, all-map, hit-same, hit-other}
 use Rattle.tree.specs.Bridge.{unusedFrom, unusedOf}
+
+-- a node in use is one of the pool's
+pub used-in : (ns : List S.Node) (x : ℕ) → nth ns x .kind ≢ 0 → x < length ns
+used-in ns x u = by (decLt x (length ns))
+  where
+    by : Dec (x < length ns) → x < length ns
+    by (yes g) = g
+    by (no g) = let le : length ns ≤ x = omega arith in absurd (u (ap (λ (n : S.Node). n .kind) (List·getD-eq-default ns unused le)))
 
 -- EACH ONCE, and only those of kind 0
 

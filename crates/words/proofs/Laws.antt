@@ -42,7 +42,7 @@ same-refl l = same-next l l refl
 
 -- ---- words and lists: a cut between two words of the bytes is a cut of the words
 
-nil-of-length : (l : List ℕ) → length l ≡ 0 → l ≡ []
+pub nil-of-length : (l : List ℕ) → length l ≡ 0 → l ≡ []
 nil-of-length [] e = refl
 nil-of-length (x ∷ l) e = absurd (omega arith)
 

@@ -4,7 +4,7 @@ use borrow.Author.Needs.{needs}
 use Rattle.words.specs.Words.{words}
 use Rattle.slots.specs.Nodes.{At, nodes}
 use Rattle.slots.proofs.Nodes.{become}
-use Rattle.leaf.proofs.Steps.{put-same}
+use Rattle.slots.proofs.Nodes.{put-same}
 use Rattle.leaf.proofs.key.perform.Statement.{statement}
 use Rattle.leaf.proofs.key.perform.Tie as tie
 

@@ -9,9 +9,9 @@ use Rattle.words.specs.Words.{words}
 use Rattle.slots.specs.declared.Row.{Row}
 use Rattle.slots.specs.Nodes.{Node, nodes, nth, rowsAt, putRows, putKind, putIn}
 use Rattle.slots.proofs.Nodes.{then, become, length-nodes}
-use Rattle.slots.proofs.Pairs.{kept-same}
+use Rattle.slots.proofs.Pairs.{kept-same, own-rows}
 use Rattle.root.specs.Roots.{crowned}
-use Rattle.root.proofs.Sets.{own-rows, two-rows}
+use Rattle.root.proofs.Sets.{two-rows}
 use Rattle.root.proofs.grow.crown.Statement.{statement}
 use Rattle.root.proofs.grow.crown.Tie as tie
 

@@ -5,7 +5,8 @@ use Rattle.words.specs.Words.{words}
 use Rattle.slots.specs.Slots.{blank}
 use Rattle.slots.specs.Nodes.{nodes, nth}
 use Rattle.tree.specs.Bridge.{childOf}
-use Rattle.settle.proofs.Places.{slot-at, named}
+use Rattle.tree.proofs.SoundHolds.{slot-read}
+use Rattle.settle.proofs.Places.{named}
 use borrow.Author.Needs.{needs}
 use Rattle.settle.proofs.weigh.child_at.Statement.{statement}
 use Rattle.settle.proofs.weigh.child_at.Tie as tie
@@ -16,7 +17,7 @@ returns c =
     let a = start .args in
     let ns = nodes (a .st) (words (a .pool .now)) in
     named (a .st) (words (a .pool .now)) (a .below) (a .s) (a .i) _ _ (start .pre)
-    (c .child-of .ensures ∙ ap childOf (c .before .row-at .ensures) ∙ sym (slot-at ns (a .below) (childOf (getD (nth ns (a .s) .rows) (a .i) blank))))
+    (c .child-of .ensures ∙ ap childOf (c .before .row-at .ensures) ∙ sym (slot-read ns (a .below) (childOf (getD (nth ns (a .s) .rows) (a .i) blank))))
 
 pub child-at-spec : {M : Type 1} → statement M
 child-at-spec = tie.close (tie.spec (λ c κs. search needs) (λ c κs. search needs) returns)

@@ -14,12 +14,13 @@ use Rattle.slots.specs.declared.Row.{Row}
 use Rattle.slots.specs.Slots.{blank}
 use Rattle.slots.specs.Nodes.{rowsAt}
 use Rattle.model.proofs.Answers.{told-no}
+use Rattle.model.proofs.Lists.{all-at}
 use Rattle.tree.specs.Bridge.{childOf}
 use Rattle.survey.specs.declared.walk.Part.{Part}
 use Rattle.survey.specs.Checked.{Last, last, There, Head, Opened, Right, Checked, RowRight}
 use Rattle.survey.proofs.Rows.{right-rows, right-opened, right-tail}
 use Rattle.survey.proofs.Walks.{Going, going-none, checked-not, checked-end, turn-fault, turn-addable, turn-on}
-use Rattle.survey.proofs.Heads.{row-raw, head-count, all-at, tail-told}
+use Rattle.survey.proofs.Heads.{row-raw, head-count, tail-told}
 use Rattle.survey.proofs.walk.check_interior.Reads as check-interior
 use Rattle.survey.proofs.walk.check_interior.Kinds as check-interior-kinds
 use Rattle.survey.proofs.walk.+check_interior+check_node.Lts-check_interior as check-interior-lts
@@ -145,7 +146,7 @@ check-node-requires t c κs =
     let row : c .before .raw-row .result ≡ getD rs (at .i) blank = c .before .raw-row .ensures ∙ row-raw (a .st) W (a .s) (at .i) (omega (arith, count .ensures)) in
     let slot : c .child-of .result ≡ childOf (getD rs (at .i) blank) = c .child-of .ensures ∙ ap childOf row in
     let there : There (a .st) W (a .height - 1) (childOf (getD rs (at .i) blank)) =
-    all-at {P = λ (r : Row). There (a .st) W (a .height - 1) (childOf r)} rs (at .i) (omega arith) (opened .children) in
+    all-at {P = λ (r : Row). There (a .st) W (a .height - 1) (childOf r)} rs (at .i) blank (omega arith) (opened .children) in
     (omega (arith, pre .0, pre .1 .1 .1), (pre .1 .0, rw slot there))
 
 returns-2 : (t : ℕ) → check-interior-lts.Need-returns-2 (interior-calls t) (check-interior-at t) check-interior.Post Inv μ

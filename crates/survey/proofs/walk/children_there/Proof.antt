@@ -13,9 +13,10 @@ use Rattle.slots.specs.Nodes.{rowsAt}
 use Rattle.model.specs.declared.Settings.{Settings}
 use Rattle.model.specs.Lists.{All, none}
 use Rattle.model.proofs.Answers.{told-no, tells-no, tells-yes}
+use Rattle.model.proofs.Lists.{all-at, all-more, all-past}
 use Rattle.tree.specs.Bridge.{childOf}
 use Rattle.survey.specs.Checked.{There}
-use Rattle.survey.proofs.Heads.{row-raw, head-count, all-at, all-more, all-past}
+use Rattle.survey.proofs.Heads.{row-raw, head-count}
 use Rattle.survey.proofs.walk.children_there.Statement.{statement}
 use Rattle.survey.proofs.walk.children_there.Tie as tie
 
@@ -54,7 +55,7 @@ returns c =
     c .before .before .before .raw-row .ensures ∙ row-raw (a .st) W (a .s) (at .i) (omega (arith, count .ensures)) in
     let slot : c .before .before .child-of .result ≡ childOf (getD rs (at .i) blank) = c .before .before .child-of .ensures ∙ ap childOf row in
     tells-no (λ all. told-no (c .before .there .ensures) (not-true (c .before .there .result) (c .if1 .taken))
-    (rw slot (all-at {P = Child (a .st) W (a .height)} rs (at .i) (omega arith) all)))
+    (rw slot (all-at {P = Child (a .st) W (a .height)} rs (at .i) blank (omega arith) all)))
 
 add-i : tie.Need-add-i Inv-loop μ-loop
 add-i c = omega arith
@@ -76,7 +77,7 @@ loop-again c =
     let slot : c .before .before .child-of .result ≡ childOf (getD rs (at .i) blank) = c .before .before .child-of .ensures ∙ ap childOf row in
     let one : Child (a .st) W (a .height) (getD rs (at .i) blank) =
     subst (There (a .st) W (a .height)) slot (c .before .there .ensures .holds (not-false (c .before .there .result) (c .if1 .left))) in
-    (omega arith, all-more {P = Child (a .st) W (a .height)} rs (at .i) (omega arith) (at .inv .1) one)
+    (omega arith, all-more {P = Child (a .st) W (a .height)} rs (at .i) blank (omega arith) (at .inv .1) one)
 
 returns-2 : tie.Need-returns-2 Inv-loop μ-loop
 returns-2 c =

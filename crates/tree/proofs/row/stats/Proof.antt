@@ -8,8 +8,9 @@ use Rattle.words.specs.Words.{words}
 use Rattle.slots.specs.Nodes.{rowsAt}
 use Rattle.model.specs.declared.Totals.{Totals}
 use Rattle.model.specs.Tree.{plus}
+use Rattle.model.proofs.Trees.{zero-plus}
 use Rattle.tree.specs.Sums.{sumRows}
-use Rattle.tree.proofs.Sums.{zero-plus, sum-more, sum-fits, sum-all}
+use Rattle.tree.proofs.Sums.{sum-more, sum-fits, sum-all}
 use Rattle.tree.proofs.row.stats.Statement.{statement}
 use Rattle.tree.proofs.row.stats.Tie as tie
 
