@@ -15,7 +15,7 @@ use Rattle.model.specs.declared.Direction.the-variants.{Up, Down}
 use Rattle.model.specs.Lists.{concat, keep}
 use Rattle.model.specs.Tree.{Tree}
 use Rattle.model.specs.Look.{Request, starts, ends, least, entered, openings}
-use Rattle.tree.specs.Bridge.{rowFor, childOf, Holds, treeAt}
+use Rattle.tree.specs.Bridge.{rowFor, childOf, childTotals, Holds, treeAt}
 use Rattle.look.specs.declared.Scanned.{Scanned}
 use Rattle.look.specs.declared.query.Query.{Query}
 use Rattle.look.specs.Output.{Page, page, enlistAll}
@@ -27,7 +27,7 @@ requestOf q = record { start = q .start; end = q .end; direction = q .direction;
 
 -- whether the child of an interior's row is opened, by the separator and the size sum that the row stores
 abbrev pub enters : Query → Row → Bool
-enters q r = starts (q .start) (r .key) && leb (least (q .sift)) (r .size)
+enters q r = starts (q .start) (r .key) && leb (least (q .sift)) (childTotals r .size)
 
 -- whether the loop over children goes on behind a separator
 abbrev pub goesOnBy : Direction → Bound → ℕ → Bool

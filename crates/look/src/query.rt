@@ -41,7 +41,8 @@ pub fn is_entered(q: Query, row: Row) -> bool
     if !passes_start(q, row.key) {
         return false;
     }
-    is_large(q, row.size)
+    let below = tree::child_totals(row);
+    is_large(q, below.size)
 }
 
 // Whether the loop over the children goes on behind the one with this separator. Backwards it always does.
