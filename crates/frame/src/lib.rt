@@ -10,6 +10,8 @@ mod walk; // the preorder walk over a pool's slots
 mod writer; // a kind and entries to a line
 
 pub use digits::value_of;
+pub use entries::branch;
+pub use entries::leaf_entry;
 use model::Reference;
 use model::Totals;
 pub use node::write_node;

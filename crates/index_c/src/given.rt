@@ -1,10 +1,11 @@
 // What a caller's numbers and flags stand for.
 ghost use mathlib.Core.Path.{_≡_};
 ghost use Rattle.index_c.specs.Given.{settingsFor, boundFor, directionFor, expectationFor, actionFor, leafContents, interiorContents};
-ghost use Rattle.frame.specs.Contents.{ofEntry, ofBranch};
+ghost use Rattle.frame.specs.Contents.{ofBranch};
 use frame::Contents;
 use frame::FrameEntry;
 use frame::Kind;
+use frame::leaf_entry;
 use model::Action;
 use model::Bound;
 use model::Direction;
@@ -78,21 +79,6 @@ pub fn leaf(count: u64, keys: &[u64; 32], places: &[u64; 32], sizes: &[u32; 32])
     }
 }
 
-fn leaf_entry(key: u64, place: u64, size: u32) -> FrameEntry
-    ensures { λ r. ⌜ r ≡ ofEntry (record { key = key; place = place; size = size }) ⌝ }
-{
-    FrameEntry {
-        key,
-        reference: Reference { place, size },
-        child: 0,
-        totals: Totals {
-            live: 0,
-            dead: 0,
-            size: 0,
-        },
-    }
-}
-
 pub fn interior(
     count: u64,
     keys: &[u64; 32],
@@ -119,10 +105,5 @@ pub fn interior(
 fn branch(key: u64, child: u32, live: u32, dead: u32, size: u64) -> FrameEntry
     ensures { λ r. ⌜ r ≡ ofBranch (record { key = key; child = child; totals = record { live = live; dead = dead; size = size } }) ⌝ }
 {
-    FrameEntry {
-        key,
-        reference: Reference { place: 0, size: 0 },
-        child,
-        totals: Totals { live, dead, size },
-    }
+    frame::branch(key, child, Totals { live, dead, size })
 }

@@ -12,7 +12,7 @@ use Rattle.index_c.proofs.given.leaf.Statement.{statement}
 use Rattle.index_c.proofs.given.leaf.Tie as tie
 use Rattle.index_c.proofs.given.leaf.Reads as reads
 use Rattle.index_c.proofs.given.leaf.Lts as lts
-use Rattle.index_c.proofs.given.leaf_entry.Reads as leaf-entry-reads
+use Rattle.frame.proofs.leaf_entry.Reads as leaf-entry-reads
 
 abbrev Inv-loop : tie.InvT-loop
 Inv-loop count keys places sizes entries₀ i₀ entries i = (i ≤ 32) × Filling (leafAt keys places sizes) 32 entries i
