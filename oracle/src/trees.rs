@@ -61,6 +61,12 @@ pub fn placed(mut root: Node, nodes: usize, random: Option<&mut Random>) -> Inde
     Index { root, unused }
 }
 
+/// Two leaves at depth 8, each below six nodes of one child.
+pub fn deepest(nodes: usize) -> Index {
+    let chain = |k| (0..6).fold(Node::leaf(0, vec![entry_for(k)]), |n, _| Node::interior(0, vec![n]));
+    placed(Node::interior(0, vec![chain(1), chain(2)]), nodes, None)
+}
+
 /// A random tree of a depth with at most so many nodes; its keys ascend by gaps up to `gap`.
 pub fn random(r: &mut Random, st: &Settings, depth: usize, most: usize, gap: usize) -> Node {
     let mut key = r.below(3) as u64;

@@ -11,21 +11,21 @@ use trial::at;
 
 // The line's bytes are numbers below 256.
 pub fn read(numbers: &[u64]) -> Told {
-    // 33 entries of an interior, one more than a frame may have
-    let mut text = [0u8; 1850];
+    // room for 33 entries of an interior, one more than a frame may have, and for a few bytes behind them
+    let mut text = [0u8; 2000];
     spell(numbers, &mut text);
     read_first(&text, numbers.len())
 }
 
-fn spell(numbers: &[u64], text: &mut [u8; 1850]) {
-    for j in 0..1850 {
+fn spell(numbers: &[u64], text: &mut [u8; 2000]) {
+    for j in 0..2000 {
         text[j] = (at(numbers, j) % 256) as u8;
     }
 }
 
 // The line is the first n bytes.
-fn read_first(text: &[u8; 1850], n: usize) -> Told {
-    if n > 1850 {
+fn read_first(text: &[u8; 2000], n: usize) -> Told {
+    if n > 2000 {
         return amiss();
     }
     let all: &[u8] = text;

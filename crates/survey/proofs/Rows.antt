@@ -14,11 +14,11 @@ use Rattle.model.specs.declared.Settings.{Settings}
 use Rattle.model.specs.Lists.{All, none, one}
 use Rattle.model.specs.Tree.{Item, Tree, entries, slots}
 use Rattle.model.specs.Sound.{Whole, Fits}
-use Rattle.model.proofs.Lists.{all-append, all-left, all-right, all-head, all-tail}
+use Rattle.model.proofs.Lists.{all-append, all-left, all-right, all-head, all-tail, all-map}
 use Rattle.model.proofs.Trees.{flat, slotsIn}
 use Rattle.tree.specs.Bridge.{entryOf, childOf, treeAt}
 use Rattle.tree.specs.Pool.{Kinds, EachChild, Separates, Totalled}
-use Rattle.survey.specs.Checked.{Last, after, Beyond, There, Head, Opened, Tail, Right}
+use Rattle.survey.specs.Checked.{Last, after, Beyond, There, EachThere, Head, Opened, Tail, Right}
 use Rattle.survey.proofs.Ascents.{Ascends, ascends-append, ascends-left, ascends-right, ascends-beyond, ascends-sorted, sorted-ascends}
 
 -- WHAT A ROW HOLDS: an entry, or a child
@@ -217,14 +217,10 @@ used-low [] s k e = absurd (omega arith)
 used-low (n ∷ ns) zero k e = omega arith
 used-low (n ∷ ns) (suc s) k e = omega (arith, used-low ns s k e)
 
--- a node of the right kinds is there, and so are its children
+-- a node of the right kinds is there
 pub kinds-there : (st : Settings) (W : List ℕ) (h s : ℕ) → Kinds (nodes st W) h s → There st W h s
 kinds-there st W zero s g = record { slot = omega (arith, used-low (nodes st W) s 0 g, length-nodes st W); kind = g }
 kinds-there st W (suc h) s g = record { slot = omega (arith, used-low (nodes st W) s 1 (g .0), length-nodes st W); kind = g .0 }
-
-children-there : (st : Settings) (W : List ℕ) (h : ℕ) (rs : List Row) → All (λ r. Kinds (nodes st W) h (childOf r)) rs → All (λ r. There st W h (childOf r)) rs
-children-there st W h [] all = none
-children-there st W h (r ∷ rs) all = one (kinds-there st W h (childOf r) (all-head all)) (children-there st W h rs (all-tail all))
 
 pub right-head : (st : Settings) (W : List ℕ) (h s least : ℕ) (p : Last) (left : ℕ) → Right st W h s least p left → Head st W h s least left
 right-head st W zero s least p left g =
@@ -247,5 +243,5 @@ right-opened st W h s least p left g =
     let below : h ≡ suc h - 1 = omega arith in
     record {
       head = right-head st W (suc h) s least p left g;
-      children = subst (λ (k : ℕ). All (λ r. There st W k (childOf r)) (rowsAt st W s)) below (children-there st W h (rowsAt st W s) (g .kinds .1));
+      children = subst (λ (k : ℕ). EachThere st W k (rowsAt st W s)) below (all-map (λ (r : Row) k. kinds-there st W h (childOf r) k) (g .kinds .1));
     }

@@ -1,7 +1,7 @@
 // What the words of a row mean, and what the rows of a node add up to. A leaf's row is an entry: its key, its place and its size. An
 // interior's row is a child: its greatest key, its slot beside its live and dead entries, and its size sum.
 //
-// The other crates ask here, so that none but this one takes a child's row apart or puts one together.
+// The crates of the index ask here, so that none but this one takes a child's row apart or puts one together.
 ghost use mathlib.Core.Path.{_≡_};
 ghost use Rattle.words.specs.Words.{words};
 ghost use Rattle.slots.specs.Nodes.{rowsAt};

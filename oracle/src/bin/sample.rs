@@ -25,10 +25,11 @@ use oracle::random::Random;
 use oracle::script::Step;
 use oracle::session::Session;
 use oracle::stand_in::StandIn;
+use oracle::trees;
 use oracle::walk::{self, Keys, Mood};
 use plain::pool::{image, length, put, word};
-use plain::tree::{Index, Node};
-use plain::{Action, Call, Entry, Expectation, Operation, Settings};
+use plain::tree::Index;
+use plain::{Action, Call, Expectation, Operation, Settings};
 
 fn main() {
     let args: Vec<u64> = std::env::args().skip(1).map(|a| a.parse().expect("a number")).collect();
@@ -116,13 +117,11 @@ fn one_pool(r: &mut Random, calls: u64) -> u64 {
     pool.written
 }
 
-/// A pool of eight levels, put word by word into an opened one: two leaves, each at the end of interiors that have one child.
+/// A pool of eight levels, put word by word into an opened one.
 fn deep_pool(r: &mut Random) -> u64 {
     let st = Settings { nodes: 16, order: 4, minimum: 2 };
-    let chain = |slot: usize, key: u64| (slot + 1..slot + 7).rev().fold(two_entries(slot, key), |below, slot| Node::interior(slot, vec![below]));
-    let root = Node::interior(0, vec![chain(1, 10), chain(8, 20)]);
-    let mut pool = Played::open_with(st, Index { root, unused: vec![15] });
-    let mut keys = Keys::Below(30);
+    let mut pool = Played::open_with(st, trees::deepest(16));
+    let mut keys = Keys::Below(4);
     // at eight levels nothing may be set, however often it is tried; a removal that joins makes room
     for _ in 0..10 {
         let call = walk::batch(r, &st, pool.session.index(), &mut keys, Mood::Grow);
@@ -136,10 +135,6 @@ fn deep_pool(r: &mut Random) -> u64 {
         pool.play(&Step::Batch(call));
     }
     pool.written
-}
-
-fn two_entries(slot: usize, key: u64) -> Node {
-    Node::leaf(slot, vec![Entry { key, place: 256, size: 16 }, Entry { key: key + 1, place: 0, size: 16 }])
 }
 
 /// A pool whose calls are written as they are made. The session is there so that nothing is written on which the third variant disagrees.

@@ -3,15 +3,9 @@ use super::{Found, Work};
 use crate::script::Step;
 use crate::session::Session;
 use crate::trees;
-use plain::tree::{Index, Node};
+use plain::tree::Index;
 use plain::{Action, Call, Expectation, Operation, Reference, Settings};
 use std::time::Instant;
-
-/// Two leaves at depth 8, each below six nodes of one child.
-fn deepest(nodes: usize) -> Index {
-    let chain = |k| (0..6).fold(Node::leaf(0, vec![trees::entry_for(k)]), |n, _| Node::interior(0, vec![n]));
-    trees::placed(Node::interior(0, vec![chain(1), chain(2)]), nodes, None)
-}
 
 /// Every operation on some keys, with so many places and sizes lent.
 fn every(keys: &[u64], places: usize, sizes: usize) -> Vec<Call> {
@@ -31,8 +25,13 @@ impl Work<'_> {
     pub(super) fn table(&mut self, _until: Instant) -> Result<(), Found> {
         let st = |nodes| Settings { nodes, order: 4, minimum: 2 };
         let few = trees::all(&[2, 4, 6, 8, 10], 4, 2).swap_remove(0);
-        let pools =
-            [(st(8), None), (st(16), None), (st(16), Some(deepest(16))), (st(60), Some(deepest(60))), (st(9), Some(trees::placed(few, 9, None)))];
+        let pools = [
+            (st(8), None),
+            (st(16), None),
+            (st(16), Some(trees::deepest(16))),
+            (st(60), Some(trees::deepest(60))),
+            (st(9), Some(trees::placed(few, 9, None))),
+        ];
         for (settings, start) in pools {
             let n = plain::pool::length(&settings) / 8;
             for damage in

@@ -1,9 +1,9 @@
 //! The soundness test on full pools, beside a sum of the same bytes as 64-bit words.
 use crate::clock::{nanos, readings};
 use oracle::random::Random;
-use oracle::Library;
+use oracle::{trees, Library};
 use plain::pool::image;
-use plain::tree::{Index, Items, Node};
+use plain::tree::{Index, Node};
 use plain::{Bound, Entry, Request, Settings};
 use std::hint::black_box;
 use std::time::Duration;
@@ -72,15 +72,8 @@ fn full(st: &Settings, layout: Layout) -> Index {
     while level.len() > 1 {
         level = parents(level, st.order);
     }
-    let mut root = level.remove(0);
-    let mut slots: Vec<usize> = (0..st.nodes).collect();
-    if let Layout::Scattered = layout {
-        Random::new(5).shuffle(&mut slots[1..]);
-    }
-    let mut unused = slots.split_off(root.nodes());
-    unused.sort_unstable();
-    lay(&mut root, &mut slots.into_iter());
-    Index { root, unused }
+    let mut random = Random::new(5);
+    trees::placed(level.remove(0), st.nodes, matches!(layout, Layout::Scattered).then_some(&mut random))
 }
 
 fn entry(i: u64) -> Entry {
@@ -101,12 +94,4 @@ fn parents(level: Vec<Node>, order: usize) -> Vec<Node> {
     let (n, above) = (level.len(), level.len().div_ceil(order));
     let mut nodes = level.into_iter();
     (0..above).map(|i| Node::interior(0, nodes.by_ref().take(n * (i + 1) / above - n * i / above).collect())).collect()
-}
-
-/// Puts the nodes into slots, in the order of a walk.
-fn lay(n: &mut Node, slots: &mut impl Iterator<Item = usize>) {
-    n.slot = slots.next().expect("a slot for each node");
-    if let Items::Nodes(below) = &mut n.items {
-        below.iter_mut().for_each(|c| lay(c, slots));
-    }
 }

@@ -10,7 +10,7 @@ abbrev Inv-loop : tie.InvT-loop
 Inv-loop numbers text₀ j₀ text j = Unit {0}
 
 abbrev μ-loop : tie.MeasureT-loop
-μ-loop numbers text₀ j₀ text j = 1850 - j
+μ-loop numbers text₀ j₀ text j = 2000 - j
 
 -- src/frames.rt:21:5
 loop-holds : tie.Need-loop-holds Inv-loop μ-loop
