@@ -7,13 +7,13 @@ use mathlib.Core.List.{List, [], _∷_, _++_, append-assoc, append-nil}
 use mathlib.Core.Option.{Option, none, some}
 use lib.Dec.{eqb, ltb, leb}
 use lib.ListN.{length, take, drop, set, length-drop, length-take, length-set}
-use lib.Seq.{drop-drop, take-suc-set}
+use lib.Seq.{drop-drop, take-suc-set, drop-set-lt}
 use native.Mathlib.Numerals.{add-one}
 use Rattle.model.specs.declared.Entry.{Entry}
 use borrow.Author.Tests.{lt-leb, le-leb, ltb-true, ltb-false}
-use Rattle.desk_lines.specs.Lines.{upTo, endOf}
-use Rattle.desk_lines.specs.Orders.{fields, onto, number, rowsIn, andRows, row, entriesOf}
-use Rattle.desk_lines.specs.Numbers.{fieldAt, fieldsFrom, firstNumber, rowsRead, Lends, NumberAt, NextAt}
+use Rattle.desk_lines.specs.Lines.{onto, upTo, endOf}
+use Rattle.desk_lines.specs.Orders.{fields, number, rowsIn, andRows, row}
+use Rattle.desk_lines.specs.Numbers.{fieldAt, fieldsFrom, firstNumber, entriesOf, rowsRead, Lends, Past, NumberAt, NextAt}
 use Rattle.desk_lines.specs.declared.digits.Number.{Number}
 use Rattle.desk_lines.specs.declared.digits.Number.the-variants as N
 use Rattle.desk_lines.proofs.Finds.{up-to-length}
@@ -183,32 +183,38 @@ entries-more (a ∷ xs) [] ws k p z e f = absurd (omega arith)
 entries-more (a ∷ xs) (b ∷ ys) [] k p z e f = absurd (omega arith)
 entries-more (a ∷ xs) (b ∷ ys) (c ∷ ws) k p z e f = ap (record { key = a; place = b; size = c } ∷_) (entries-more xs ys ws k p z (omega arith) (omega arith))
 
-pub record Reading (triples : Bool) (l : List ℕ) (from : ℕ) (ks ps zs : List ℕ) (at n : ℕ) : Type 0 where
+pub record SoFar (triples : Bool) (l : List ℕ) (from : ℕ) (ks₀ ps₀ zs₀ ks ps zs : List ℕ) (at n : ℕ) : Type 0 where
   pub short : length l ≤ 255
   pub lends : Lends ks ps zs
   pub few : 4 + 2 * n ≤ at
   pub within : at ≤ length l + 1
   pub some : n ≡ 0 → at ≤ length l
+  pub past : Past n ks₀ ps₀ zs₀ ks ps zs
   pub going : joinRows (firsts n ks ps zs) (rowsIn triples (fieldsFrom l at)) ≡ rowsIn triples (fieldsFrom l from)
 
-pub reading : (triples : Bool) (l : List ℕ) (from : ℕ) (ks ps zs : List ℕ) → 4 ≤ from → from ≤ length l → length l ≤ 255 → Lends ks ps zs
-    → Reading triples l from ks ps zs from 0
-reading triples l from ks ps zs a b c d =
+pub none-yet : (triples : Bool) (l : List ℕ) (from : ℕ) (ks ps zs : List ℕ) → 4 ≤ from → from ≤ length l → length l ≤ 255 → Lends ks ps zs
+    → SoFar triples l from ks ps zs ks ps zs from 0
+none-yet triples l from ks ps zs a b c d =
     record {
       short = c;
       lends = d;
       few = omega arith;
       within = omega arith;
       some = λ z. b;
+      past = record { keys = refl; places = refl; sizes = refl };
       going = none-before (rowsIn triples (fieldsFrom l from));
     }
 
-module _ {triples : Bool} {l : List ℕ} {from : ℕ} {ks ps zs : List ℕ} {at n : ℕ} (r : Reading triples l from ks ps zs at n) where
+-- what is past a place that was set
+past-set : (xs ys : List ℕ) (n v : ℕ) → drop n xs ≡ drop n ys → drop (n + 1) (set xs n v) ≡ drop (n + 1) ys
+past-set xs ys n v e = drop-set-lt (n + 1) xs n v (omega arith) ∙ sym (drop-drop 1 n xs) ∙ ap (drop 1) e ∙ drop-drop 1 n ys
+
+module _ {triples : Bool} {l : List ℕ} {from : ℕ} {ks₀ ps₀ zs₀ ks ps zs : List ℕ} {at n : ℕ} (r : SoFar triples l from ks₀ ps₀ zs₀ ks ps zs at n) where
   pub rows-bad : rowsIn triples (fieldsFrom l at) ≡ none → none ≡ rowsIn triples (fieldsFrom l from)
   rows-bad e = sym (ap (joinRows (firsts n ks ps zs)) e) ∙ r .going
 
   pub rows-more : (k p z e : ℕ) → rowsIn triples (fieldsFrom l at) ≡ andRows (some (record { key = k; place = p; size = z })) (rowsIn triples (fieldsFrom l (e + 1)))
-      → at < e → e ≤ length l → Reading triples l from (set ks n k) (set ps n p) (set zs n z) (e + 1) (n + 1)
+      → at < e → e ≤ length l → SoFar triples l from ks₀ ps₀ zs₀ (set ks n k) (set ps n p) (set zs n z) (e + 1) (n + 1)
   rows-more k p z e q lt le =
       let lw : n < 128 = omega (arith, r .few, r .short) in
       let a : take (n + 1) (set ks n k) ≡ take n ks ++ (k ∷ []) = rw add-one (take-suc-set ks n k (omega (arith, r .lends .keys))) in
@@ -226,12 +232,13 @@ module _ {triples : Bool} {l : List ℕ} {from : ℕ} {ks ps zs : List ℕ} {at 
         few = omega (arith, r .few);
         within = omega arith;
         some = λ x. absurd (omega arith);
+        past = record { keys = past-set ks ks₀ n k (r .past .keys); places = past-set ps ps₀ n p (r .past .places); sizes = past-set zs zs₀ n z (r .past .sizes) };
         going = rw more (row-more (firsts n ks ps zs) _ (rowsIn triples (fieldsFrom l (e + 1)))) ∙ ap (joinRows (firsts n ks ps zs)) (sym q) ∙ r .going;
       }
 
-  pub rows-done : length l < at → (rowsRead n ks ps zs ≡ rowsIn triples (fieldsFrom l from)) × (Lends ks ps zs × (n ≤ 128))
+  pub rows-done : length l < at → (rowsRead n ks ps zs ≡ rowsIn triples (fieldsFrom l from)) × (Lends ks ps zs × ((n ≤ 128) × ((n ≡ 0 → ⊥) → Past n ks₀ ps₀ zs₀ ks ps zs)))
   unfolding rowsIn
-  rows-done h = (by n (r .some) ∙ r .going, (r .lends, omega (arith, r .few, r .short, r .within)))
+  rows-done h = (by n (r .some) ∙ r .going, (r .lends, (omega (arith, r .few, r .short, r .within), λ no. r .past)))
     where
       over : rowsIn triples (fieldsFrom l at) ≡ some []
       over = simp (lt-leb _ _ h) refl

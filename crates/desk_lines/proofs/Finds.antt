@@ -10,7 +10,7 @@ use lib.ListN.{length, getD, take, drop, drop-of-length-le, length-drop}
 use lib.Seq.{drop-cons}
 use borrow.Author.Tests.{eq-eqb, ne-eqb}
 use Rattle.model.proofs.Lists.{by-test}
-use Rattle.desk_lines.specs.Lines.{upTo, endOf, lineAt}
+use Rattle.desk_lines.specs.Lines.{upTo, endOf, firstLine}
 
 module _ (stop : ℕ) (t : List ℕ) (i : ℕ) where
   -- the byte at i is the one
@@ -48,12 +48,6 @@ unfolding upTo
 up-to-length stop [] = omega arith
 up-to-length stop (b ∷ bs) = by-test (λ f. length f ≤ length (b ∷ bs)) (eqb b stop) {x = []} {y = b ∷ upTo stop bs} (λ e. omega arith) (λ e. omega (arith, up-to-length stop bs))
 
--- so it is the part of the text up to its end
-pub line-part : (t : List ℕ) (from : ℕ) → take (endOf 10 t from - from) (drop from t) ≡ lineAt t from
-line-part t from =
-    let n : endOf 10 t from - from ≡ length (lineAt t from) = omega arith in
-    rw n (up-to-take 10 (drop from t))
-
--- and stands within the text
-pub line-inside : (t : List ℕ) (from : ℕ) (l : List ℕ) → l ≡ lineAt t from → length l ≤ length t - from
-line-inside t from l e = omega (arith, ap length e, up-to-length 10 (drop from t), length-drop from t)
+-- so the first line is the part of the text up to its end
+pub line-part : (t : List ℕ) (n : ℕ) → n ≡ endOf 10 t 0 → take n t ≡ firstLine t
+line-part t n e = let k : n ≡ length (upTo 10 t) = omega arith in rw k (up-to-take 10 t)

@@ -1,6 +1,9 @@
--- `Finds`: a byte looked for. `Spelt`: the digits of a number. `Fields`: a line field by field. `Begins`: the first word. `Asks`: what it asks for.
+-- `Finds`: a byte looked for. `Keeps`: a line that comes in parts. `Spelt`: the digits of a number. `Fields`: a line field by field. `Begins`: the
+-- first word. `Asks`: what it asks for. `Bounds`: that its numbers are what their types can hold.
 pub mod Finds
+pub mod Keeps
 pub mod Spelt
 pub mod Fields
 pub mod Begins
 pub mod Asks
+pub mod Bounds

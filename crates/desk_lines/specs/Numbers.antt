@@ -9,12 +9,10 @@ use lib.Dec.{leb}
 use Rattle.model.specs.declared.Entry.{Entry}
 use Rattle.desk_lines.specs.declared.digits.Number.{Number}
 use Rattle.desk_lines.specs.declared.digits.Number.the-variants as N
-use Rattle.desk_lines.specs.declared.Order.{Order}
-use Rattle.desk_lines.specs.declared.Order.the-variants as O
 use Rattle.desk_lines.specs.declared.rows.Row.{Row}
 use Rattle.desk_lines.specs.declared.rows.Row.the-variants as R
 use Rattle.desk_lines.specs.Lines.{upTo, endOf}
-use Rattle.desk_lines.specs.Orders.{number, fields, rowsIn, andRows, entriesOf}
+use Rattle.desk_lines.specs.Orders.{number, fields, rowsIn, andRows}
 
 -- the field that begins at `from`
 abbrev pub fieldAt : List ℕ → ℕ → List ℕ
@@ -51,14 +49,20 @@ pub record Lends (ks ps zs : List ℕ) : Type 0 where
   pub places : length ps ≡ 128
   pub sizes : length zs ≡ 128
 
+-- the entries of keys, places and sizes, side by side
+abbrev pub entriesOf : List ℕ → List ℕ → List ℕ → List Entry
+entriesOf (k ∷ ks) (p ∷ ps) (z ∷ zs) = record { key = k; place = p; size = z } ∷ entriesOf ks ps zs
+entriesOf [] ps zs = []
+entriesOf (k ∷ ks) [] zs = []
+entriesOf (k ∷ ks) (p ∷ ps) [] = []
+
+-- every place past the rows read is as it was
+pub record Past (n : ℕ) (ks ps zs ks′ ps′ zs′ : List ℕ) : Type 0 where
+  pub keys : drop n ks′ ≡ drop n ks
+  pub places : drop n ps′ ≡ drop n ps
+  pub sizes : drop n zs′ ≡ drop n zs
+
 -- the rows read; 0 says that they are malformed
 abbrev pub rowsRead : ℕ → List ℕ → List ℕ → List ℕ → Option (List Entry)
 rowsRead zero ks ps zs = none
 rowsRead (suc n) ks ps zs = some (entriesOf (take (suc n) ks) (take (suc n) ps) (take (suc n) zs))
-
--- an order of no more rows than were lent
-abbrev pub Few : Order → Type 0
-Few (O.Set n) = n ≤ 128
-Few (O.Drop n) = n ≤ 128
-Few O.Dump = Unit {0}
-Few O.Malformed = Unit {0}

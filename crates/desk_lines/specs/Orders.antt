@@ -1,15 +1,18 @@
 -- What a line of the desk program asks for: `set` with one or more key, place, size triples, `drop` with one or more keys, or `dump`. Fields are parted
 -- by one space. Assumes nothing.
-use Prim.Native.Nat.{ℕ, zero, suc, _+_, _*_}
+use Prim.Native.Nat.{ℕ, zero, suc, _+_, _-_, _*_}
 use mathlib.Core.Bool.{Bool, true, false, _&&_, cond}
-use mathlib.Core.List.{List, [], _∷_, map}
+use mathlib.Core.List.{List, [], _∷_, _++_, map}
 use mathlib.Core.Option.{Option, none, some}
-use lib.ListN.{take, drop}
+use lib.ListN.{length, drop, replicate}
 use lib.Dec.{eqb}
 use Rattle.model.specs.declared.Entry.{Entry}
 use Rattle.model.specs.ReadFrame.{valueOf, isDigit}
 use Rattle.desk_lines.specs.declared.Order.{Order}
+use Rattle.desk_lines.specs.declared.Reading.{Reading}
 use Rattle.desk_lines.specs.declared.Order.the-variants as Read
+use Rattle.desk_lines.specs.Lines.{onto}
+use Rattle.desk_lines.specs.Parts.{Kept, whole, tooLong, kept}
 
 pub data Wanted : Type 0 where
   set : List Entry → Wanted
@@ -18,10 +21,6 @@ pub data Wanted : Type 0 where
   malformed : Wanted
 
 -- FIELDS
-
-abbrev pub onto : ℕ → List (List ℕ) → List (List ℕ)
-onto b [] = (b ∷ []) ∷ []
-onto b (f ∷ fs) = (b ∷ f) ∷ fs
 
 unfoldable pub fields : List ℕ → List (List ℕ)
 fields [] = [] ∷ []
@@ -88,23 +87,31 @@ abbrev pub dropping : Option (List Entry) → Wanted
 dropping (some es) = drops (map (λ e. e .key) es)
 dropping none = malformed
 
-unfoldable pub wanted : List ℕ → Wanted
-wanted l =
+unfoldable pub asked : List ℕ → Wanted
+asked l =
     cond (begins set-word l) (setting (rowsIn true (fields (drop 4 l))))
     (cond (begins drop-word l) (dropping (rowsIn false (fields (drop 5 l))))
     (cond (begins dump-word l && isEmpty (drop 4 l)) dump
     malformed))
 
--- WHAT THE CODE SAYS: the order, and the first so many of the numbers lent to it
+-- a line that is too long is malformed, whatever stands in it
+abbrev pub ordered : Kept → Wanted
+ordered (whole l) = asked l
+ordered tooLong = malformed
 
-abbrev pub entriesOf : List ℕ → List ℕ → List ℕ → List Entry
-entriesOf (k ∷ ks) (p ∷ ps) (z ∷ zs) = record { key = k; place = p; size = z } ∷ entriesOf ks ps zs
-entriesOf [] ps zs = []
-entriesOf (k ∷ ks) [] zs = []
-entriesOf (k ∷ ks) (p ∷ ps) [] = []
+abbrev pub wanted : List ℕ → Wanted
+wanted l = ordered (kept l)
 
-abbrev pub says : Order → List ℕ → List ℕ → List ℕ → Wanted
-says (Read.Set n) ks ps zs = set (entriesOf (take n ks) (take n ps) (take n zs))
-says (Read.Drop n) ks ps zs = drops (take n ks)
-says Read.Dump ks ps zs = dump
-says Read.Malformed ks ps zs = malformed
+-- THE ANSWER OF READING, by value: 128 places for each kind of number, zero past the last that was read
+
+abbrev pub placed : List ℕ → List ℕ
+placed xs = xs ++ replicate (128 - length xs) 0
+
+abbrev pub reading : Order → List ℕ → List ℕ → List ℕ → Reading
+reading o ks ps zs = record { order = o; keys = placed ks; places = placed ps; sizes = placed zs }
+
+abbrev pub readingOf : Wanted → Reading
+readingOf (set es) = reading (Read.Set (length es)) (map (λ e. e .key) es) (map (λ e. e .place) es) (map (λ e. e .size) es)
+readingOf (drops ks) = reading (Read.Drop (length ks)) ks [] []
+readingOf dump = reading Read.Dump [] [] []
+readingOf malformed = reading Read.Malformed [] [] []

@@ -2,15 +2,14 @@
 ghost use mathlib.Core.Path.{_≡_};
 ghost use Prim.Native.Nat.{_≤_};
 ghost use lib.ListN.{length};
-ghost use Rattle.desk_lines.specs.Lines.{lineAt, endOf};
+ghost use Rattle.desk_lines.specs.Lines.{firstLine, endOf};
 
-// The line that begins at `from`, without its line feed. Where the text ends first, what is there of it.
-pub fn next_line(text: &[u8], from: usize) -> &[u8]
-    requires { ⌜ from ≤ length (now text) ⌝ }
-    ensures { λ r. ⌜ now r ≡ lineAt (now (text .entry)) from ⌝ }
+// The first line of a text, without its line feed. Where the text ends first, what is there of it.
+pub fn next_line(text: &[u8]) -> &[u8]
+    ensures { λ r. ⌜ now r ≡ firstLine (now (text .entry)) ⌝ }
 {
-    let end = find(text, from, b'\n');
-    &text[from..end]
+    let end = find(text, 0, b'\n');
+    &text[..end]
 }
 
 // Where the byte `stop` next stands, or the text's end.

@@ -1,39 +1,87 @@
 // What a line asks for.
 ghost use mathlib.Core.Path.{_≡_};
 ghost use Prim.Native.Nat.{_≤_};
+ghost use mathlib.Core.Bool.{true, false};
+ghost use mathlib.Core.List.{[]};
 ghost use lib.ListN.{length};
-ghost use Rattle.desk_lines.specs.Orders.{wanted, says, begins};
-ghost use Rattle.desk_lines.specs.Numbers.{Lends, Few};
+ghost use Rattle.desk_lines.specs.Orders.{wanted, reading, readingOf, begins, rowsIn, setting, dropping};
+ghost use Rattle.desk_lines.specs.Numbers.{fieldsFrom};
 use crate::Order;
+use crate::Reading;
+use crate::parts::LONGEST;
 use crate::rows::read_rows;
 
-// Reads a line of at most 255 bytes: its numbers go to the slices that are lent.
-pub fn read_order(line: &[u8], keys: &mut [u64], places: &mut [u64], sizes: &mut [u32]) -> Order
-    requires { ⌜ Lends (now keys) (now places) (now sizes) ⌝ }
-    requires { ⌜ length (now line) ≤ 255 ⌝ }
-    ensures { λ r. ⌜ Few r ⌝ }
-    ensures { λ r. ⌜ says r (now (keys .exit)) (now (places .exit)) (now (sizes .exit)) ≡ wanted (now (line .entry)) ⌝ }
+// Reads a line of any length. One of more than 255 bytes is malformed.
+pub fn read_order(line: &[u8]) -> Reading
+    ensures { λ r. ⌜ r ≡ readingOf (wanted (now (line .entry))) ⌝ }
 {
+    if LONGEST < line.len() {
+        return no_rows(Order::Malformed);
+    }
     if starts(line, b"set ") {
-        let n = read_rows(line, 4, true, keys, places, sizes);
-        if n == 0 {
-            return Order::Malformed;
-        }
-        return Order::Set(n);
+        return read_set(line);
     }
     if starts(line, b"drop ") {
-        let n = read_rows(line, 5, false, keys, places, sizes);
-        if n == 0 {
-            return Order::Malformed;
-        }
-        return Order::Drop(n);
+        return read_drop(line);
     }
     if starts(line, b"dump") {
         if line.len() == 4 {
-            return Order::Dump;
+            return no_rows(Order::Dump);
         }
     }
-    Order::Malformed
+    no_rows(Order::Malformed)
+}
+
+// An order without numbers.
+fn no_rows(order: Order) -> Reading
+    ensures { λ r. ⌜ r ≡ reading order [] [] [] ⌝ }
+{
+    Reading {
+        order,
+        keys: [0; 128],
+        places: [0; 128],
+        sizes: [0; 128],
+    }
+}
+
+// Reads the triples behind `set `.
+fn read_set(line: &[u8]) -> Reading
+    requires { ⌜ (4 ≤ length (now line)) × (length (now line) ≤ 255) ⌝ }
+    ensures { λ r. ⌜ r ≡ readingOf (setting (rowsIn true (fieldsFrom (now (line .entry)) 4))) ⌝ }
+{
+    let mut keys = [0u64; 128];
+    let mut places = [0u64; 128];
+    let mut sizes = [0u32; 128];
+    let n = read_rows(line, 4, true, &mut keys, &mut places, &mut sizes);
+    if n == 0 {
+        return no_rows(Order::Malformed);
+    }
+    Reading {
+        order: Order::Set(n),
+        keys,
+        places,
+        sizes,
+    }
+}
+
+// Reads the keys behind `drop `.
+fn read_drop(line: &[u8]) -> Reading
+    requires { ⌜ (5 ≤ length (now line)) × (length (now line) ≤ 255) ⌝ }
+    ensures { λ r. ⌜ r ≡ readingOf (dropping (rowsIn false (fieldsFrom (now (line .entry)) 5))) ⌝ }
+{
+    let mut keys = [0u64; 128];
+    let mut places = [0u64; 128];
+    let mut sizes = [0u32; 128];
+    let n = read_rows(line, 5, false, &mut keys, &mut places, &mut sizes);
+    if n == 0 {
+        return no_rows(Order::Malformed);
+    }
+    Reading {
+        order: Order::Drop(n),
+        keys,
+        places: [0; 128],
+        sizes: [0; 128],
+    }
 }
 
 // Whether a line begins with a word.

@@ -4,7 +4,7 @@ ghost use mathlib.Core.Bool.{true, false};
 ghost use Prim.Native.Nat.{_≤_};
 ghost use lib.ListN.{length};
 ghost use Rattle.desk_lines.specs.Orders.{rowsIn};
-ghost use Rattle.desk_lines.specs.Numbers.{fieldsFrom, NextAt, RowAt, Lends, rowsRead};
+ghost use Rattle.desk_lines.specs.Numbers.{fieldsFrom, NextAt, RowAt, Lends, Past, rowsRead};
 use crate::digits::Number;
 use crate::digits::read_number;
 
@@ -33,6 +33,8 @@ pub fn read_rows(
     ensures { λ r. ⌜ rowsRead r (now (keys .exit)) (now (places .exit)) (now (sizes .exit)) ≡ rowsIn triples (fieldsFrom (now (line .entry)) from) ⌝ }
     ensures { λ r. ⌜ Lends (now (keys .exit)) (now (places .exit)) (now (sizes .exit)) ⌝ }
     ensures { λ r. ⌜ r ≤ 128 ⌝ }
+    ensures { λ r. ⌜ ((r ≡ 0 → ⊥) → Past r (now (keys .entry)) (now (places .entry)) (now (sizes .entry))
+        (now (keys .exit)) (now (places .exit)) (now (sizes .exit))) ⌝ }
 {
     let mut at = from;
     let mut n = 0;

@@ -2,8 +2,8 @@
 -- of writing and reading together.
 mod Lines
 mod Spelt
-mod Coded
+pub mod Coded
 mod Told
-mod Walks
-mod Noded
+pub mod Walks
+pub mod Noded
 pub mod Undoes

@@ -29,7 +29,7 @@ use Rattle.index.specs.Register.{AnswersFrom, sweptOf, Turn, Runs, rest,
 
 -- WHAT A PROMISE SAYS OF A SOUND POOL
 
-by-sound : {P A : Type 0} {a b r : A} → P → Where P a b r → r ≡ a
+pub by-sound : {P A : Type 0} {a b r : A} → P → Where P a b r → r ≡ a
 by-sound p (holds q e) = e
 by-sound p (fails q e) = absurd (q p)
 

@@ -21,7 +21,7 @@ use Rattle.index.specs.declared.ScanAnswer.{ScanAnswer}
 use Rattle.index.specs.declared.ScanAnswer.the-variants as Scan
 use Rattle.index.specs.Promise.{Where, holds, fails, Left, _leaving_, opening, Opens, totalled, Totalling, batched, Batches, got, Gets, scanned, Scans, Frames}
 
-where-unique : {P : Type 0} {A : Type 0} {a b r s : A} → Where P a b r → Where P a b s → r ≡ s
+pub where-unique : {P : Type 0} {A : Type 0} {a b r s : A} → Where P a b r → Where P a b s → r ≡ s
 where-unique (holds p e) (holds q f) = e ∙ sym f
 where-unique (holds p e) (fails q f) = absurd (q p)
 where-unique (fails p e) (holds q f) = absurd (p q)

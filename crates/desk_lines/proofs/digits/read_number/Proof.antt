@@ -5,10 +5,6 @@ use mathlib.Core.Path.{_≡_, refl, sym, ap, _∙_, subst}
 use Rattle.desk_lines.proofs.Spelt.{Spelling, spelling, spelt-more, spelt-bad, spelt-done, spelt-small, number-empty, number-long}
 use Rattle.desk_lines.proofs.digits.read_number.Statement.{statement}
 use Rattle.desk_lines.proofs.digits.read_number.Tie as tie
-use Rattle.desk_lines.proofs.digits.read_number.Reads as reads
-use Rattle.desk_lines.proofs.digits.read_number.Lts as lts
-use Rattle.frame.proofs.value_of.Reads as value-of-reads
-use Rattle.desk_lines.proofs.line.find.Reads as find-reads
 
 abbrev Inv-loop : tie.InvT-loop
 Inv-loop line from most end i₀ value₀ i value = Spelling line from end most i value
@@ -16,60 +12,28 @@ Inv-loop line from most end i₀ value₀ i value = Spelling line from end most 
 abbrev μ-loop : tie.MeasureT-loop
 μ-loop line from most end i₀ value₀ i value = end - i
 
--- src/digits.rt:20:9
-find-requires : tie.Need-find-requires Inv-loop μ-loop
-find-requires c κs = search needs
-
--- src/digits.rt:22:9
 returns : tie.Need-returns Inv-loop μ-loop
 returns c = number-empty _ _ _ _ (c .before .find .ensures .0) (c .if1 .taken)
 
--- src/digits.rt:24:15
-sub-if2 : tie.Need-sub-if2 Inv-loop μ-loop
-sub-if2 c = search needs
-
--- src/digits.rt:25:9
 returns-2 : tie.Need-returns-2 Inv-loop μ-loop
 returns-2 c = number-long _ _ _ _ (c .before .before .find .ensures .0) (c .if2 .taken)
 
--- src/digits.rt:29:5
 loop-holds : tie.Need-loop-holds Inv-loop μ-loop
 loop-holds c = let f = c .before .before .find .ensures in spelling _ _ _ _ (f .0) (f .1) (λ e. c .before .if1 .left (sym e)) (f .2) (c .if2 .left)
 
--- src/digits.rt:30:23
-shared-slice-read-value-of : tie.Need-shared-slice-read-value-of Inv-loop μ-loop
-shared-slice-read-value-of c = search needs
-
--- src/digits.rt:30:13
-value-of-requires : tie.Need-value-of-requires Inv-loop μ-loop
-value-of-requires c κs = search needs
-
--- src/digits.rt:32:13
 returns-3 : tie.Need-returns-3 Inv-loop μ-loop
 returns-3 c = let s = c .before .before .before .before .loop .inv in spelt-bad s (c .before .before .before .loop-test .taken) (subst (λ n. 16 ≤ n) (c .before .value-of .ensures .0) (c .if3 .taken))
 
--- src/digits.rt:34:17
 mul-value : tie.Need-mul-value Inv-loop μ-loop
 mul-value c = search (needs, spelt-small (c .before .before .before .before .loop .inv) (c .before .before .before .loop-test .taken) (c .before .before .before .before .before .before .before .before .before .pre .1))
 
--- src/digits.rt:34:17
 add-value : tie.Need-add-value Inv-loop μ-loop
 add-value c = search (needs, spelt-small (c .before .before .before .before .loop .inv) (c .before .before .before .loop-test .taken) (c .before .before .before .before .before .before .before .before .before .pre .1))
 
--- src/digits.rt:35:9
-add-i : tie.Need-add-i Inv-loop μ-loop
-add-i c = search needs
-
--- src/digits.rt:29:5
-loop-less : tie.Need-loop-less Inv-loop μ-loop
-loop-less c = search needs
-
--- src/digits.rt:29:5
 loop-again : tie.Need-loop-again Inv-loop μ-loop
 loop-again c =
     let s = c .before .before .before .before .loop .inv in spelt-more s _ (c .before .value-of .ensures .0) (c .before .before .before .loop-test .taken) (c .if3 .left)
 
--- src/digits.rt:16:1
 returns-4 : tie.Need-returns-4 Inv-loop μ-loop
 returns-4 c =
     let s = c .before .loop .inv in
@@ -81,17 +45,17 @@ read-number-spec =
     (tie.spec
     Inv-loop
     μ-loop
-    find-requires
+    (λ c κs. search needs)
     returns
-    sub-if2
+    (λ c. search needs)
     returns-2
     loop-holds
-    shared-slice-read-value-of
-    value-of-requires
+    (λ c. search needs)
+    (λ c κs. search needs)
     returns-3
     mul-value
     add-value
-    add-i
-    loop-less
+    (λ c. search needs)
+    (λ c. search needs)
     loop-again
     returns-4)

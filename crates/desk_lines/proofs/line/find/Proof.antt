@@ -8,8 +8,6 @@ use Rattle.desk_lines.specs.Lines.{endOf}
 use Rattle.desk_lines.proofs.Finds.{end-here, end-past, end-last}
 use Rattle.desk_lines.proofs.line.find.Statement.{statement}
 use Rattle.desk_lines.proofs.line.find.Tie as tie
-use Rattle.desk_lines.proofs.line.find.Reads as reads
-use Rattle.desk_lines.proofs.line.find.Lts as lts
 
 abbrev Inv-loop : tie.InvT-loop
 Inv-loop text from stop i₀ i = (from ≤ i) × (i ≤ length text) × (endOf stop text i ≡ endOf stop text from)
@@ -17,33 +15,14 @@ Inv-loop text from stop i₀ i = (from ≤ i) × (i ≤ length text) × (endOf s
 abbrev μ-loop : tie.MeasureT-loop
 μ-loop text from stop i₀ i = length text - i
 
--- src/line.rt:22:5
-loop-holds : tie.Need-loop-holds Inv-loop μ-loop
-loop-holds c = search needs
-
--- src/line.rt:23:12
-shared-slice-read-if1 : tie.Need-shared-slice-read-if1 Inv-loop μ-loop
-shared-slice-read-if1 c = search needs
-
--- src/line.rt:24:13
 returns : tie.Need-returns Inv-loop μ-loop
 returns c = let h = c .before .before .before .loop in
     (sym (end-here _ _ _ (c .before .before .loop-test .taken) (c .if1 .taken)) ∙ h .inv .2, search needs, search needs)
 
--- src/line.rt:26:9
-add-i : tie.Need-add-i Inv-loop μ-loop
-add-i c = search needs
-
--- src/line.rt:22:5
-loop-less : tie.Need-loop-less Inv-loop μ-loop
-loop-less c = search needs
-
--- src/line.rt:22:5
 loop-again : tie.Need-loop-again Inv-loop μ-loop
 loop-again c = let h = c .before .before .before .loop in
     (search needs, search needs, end-past _ _ _ (c .before .before .loop-test .taken) (c .if1 .left) ∙ h .inv .2)
 
--- src/line.rt:17:1
 returns-2 : tie.Need-returns-2 Inv-loop μ-loop
 returns-2 c = (sym (end-last _ _ _ (c .loop-test .left)) ∙ c .before .loop .inv .2, search needs, search needs)
 
@@ -53,10 +32,10 @@ find-spec =
     (tie.spec
     Inv-loop
     μ-loop
-    loop-holds
-    shared-slice-read-if1
+    (λ c. search needs)
+    (λ c. search needs)
     returns
-    add-i
-    loop-less
+    (λ c. search needs)
+    (λ c. search needs)
     loop-again
     returns-2)

@@ -1,31 +1,17 @@
+-- The first line is the part up to the first line feed. Assumes nothing.
+use lib.Seq.{length-take-le}
+use native.Mathlib.Omega.{arith}
+use mathlib.Core.Path.{_≡_, refl, sym, ap, _∙_}
 use Rattle.desk_lines.proofs.Finds.{line-part}
 use borrow.Author.Needs.{needs}
 use Rattle.desk_lines.proofs.line.next_line.Statement.{statement}
 use Rattle.desk_lines.proofs.line.next_line.Tie as tie
-use Rattle.desk_lines.proofs.line.next_line.Reads as reads
-use Rattle.desk_lines.proofs.line.next_line.Lts as lts
-use Rattle.desk_lines.proofs.line.find.Reads as find-reads
 
--- src/line.rt:12:9
-find-requires : tie.Need-find-requires
-find-requires c κs = search needs
+slice-aggregate-result : tie.Need-slice-aggregate-result
+slice-aggregate-result c = sym (length-take-le _ _ (c .before .find .ensures .2))
 
--- src/line.rt:13:5
-sub-result : tie.Need-sub-result
-sub-result c = search needs
-
--- src/line.rt:13:5
-part-result-start : tie.Need-part-result-start
-part-result-start c = search needs
-
--- src/line.rt:13:5
-part-result-end : tie.Need-part-result-end
-part-result-end c = search needs
-
--- src/line.rt:8:1
 returns : tie.Need-returns
-returns c = rw (c .before .find .ensures .0) (line-part _ _)
+returns c = line-part _ _ (c .before .find .ensures .0)
 
 pub next-line-spec : {M : Type 1} → statement M
-next-line-spec =
-    tie.close (tie.spec find-requires sub-result part-result-start part-result-end returns)
+next-line-spec = tie.close (tie.spec (λ c κs. search needs) slice-aggregate-result returns)

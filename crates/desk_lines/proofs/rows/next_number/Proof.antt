@@ -5,25 +5,12 @@ use mathlib.Core.Path.{_≡_, refl, sym, ap, _∙_, subst}
 use borrow.Author.Needs.{needs}
 use Rattle.desk_lines.proofs.rows.next_number.Statement.{statement}
 use Rattle.desk_lines.proofs.rows.next_number.Tie as tie
-use Rattle.desk_lines.proofs.rows.next_number.Reads as reads
-use Rattle.desk_lines.proofs.rows.next_number.Lts as lts
-use Rattle.desk_lines.proofs.digits.read_number.Reads as read-number-reads
 
--- src/rows.rt:96:9
 returns : tie.Need-returns
 returns c = let a = c .before .before .args in next-none (a .line .now) (a .end) (a .most) (c .if1 .taken)
 
--- src/rows.rt:98:23
-add-read-number : tie.Need-add-read-number
-add-read-number c = search needs
-
--- src/rows.rt:98:5
-read-number-requires : tie.Need-read-number-requires
-read-number-requires c κs = search needs
-
--- src/rows.rt:91:1
 returns-2 : tie.Need-returns-2
 returns-2 c = let a = c .before .before .before .args in next-is (a .line .now) (a .end) (a .most) (c .read-number .result) (omega (arith, c .before .before .before .pre .0, c .before .if1 .left)) (c .read-number .ensures)
 
 pub next-number-spec : {M : Type 1} → statement M
-next-number-spec = tie.close (tie.spec returns add-read-number read-number-requires returns-2)
+next-number-spec = tie.close (tie.spec returns (λ c. search needs) (λ c κs. search needs) returns-2)

@@ -3,26 +3,12 @@ use mathlib.Core.Path.{_≡_, refl, sym, ap, _∙_, subst}
 use borrow.Author.Needs.{needs}
 use Rattle.desk_lines.proofs.rows.read_row.Statement.{statement}
 use Rattle.desk_lines.proofs.rows.read_row.Tie as tie
-use Rattle.desk_lines.proofs.rows.read_row.Reads as reads
-use Rattle.desk_lines.proofs.rows.read_row.Lts as lts
-use Rattle.desk_lines.proofs.rows.read_key.Reads as read-key-reads
-use Rattle.desk_lines.proofs.rows.read_triple.Reads as read-triple-reads
 
--- src/rows.rt:51:18
-read-triple-requires : tie.Need-read-triple-requires
-read-triple-requires c κs = search needs
-
--- src/rows.rt:51:49
-read-key-requires : tie.Need-read-key-requires
-read-key-requires c κs = search needs
-
--- src/rows.rt:47:1
 returns : tie.Need-returns
 returns c = let a = c .before .before .before .args in subst (λ b. RowAt b (a .line .now) (a .at) (c .read-triple .result)) (sym (c .before .if1 .taken)) (c .read-triple .ensures)
 
--- src/rows.rt:47:1
 returns-2 : tie.Need-returns-2
 returns-2 c = let a = c .before .before .before .args in subst (λ b. RowAt b (a .line .now) (a .at) (c .read-key .result)) (sym (c .before .if1 .left)) (c .read-key .ensures)
 
 pub read-row-spec : {M : Type 1} → statement M
-read-row-spec = tie.close (tie.spec read-triple-requires read-key-requires returns returns-2)
+read-row-spec = tie.close (tie.spec (λ c κs. search needs) (λ c κs. search needs) returns returns-2)

@@ -5,71 +5,32 @@ use native.Mathlib.Omega.{arith}
 use borrow.Author.Needs.{needs}
 use Rattle.desk_lines.proofs.rows.read_triple.Statement.{statement}
 use Rattle.desk_lines.proofs.rows.read_triple.Tie as tie
-use Rattle.desk_lines.proofs.rows.read_triple.Reads as reads
-use Rattle.desk_lines.proofs.rows.read_triple.Lts as lts
-use Rattle.desk_lines.proofs.digits.read_number.Reads as read-number-reads
-use Rattle.desk_lines.proofs.rows.next_number.Reads as next-number-reads
 
--- src/rows.rt:73:11
-read-number-requires : tie.Need-read-number-requires
-read-number-requires c κs = search needs
-
--- src/rows.rt:74:24
-enum-told : tie.Need-enum-told
-enum-told c = search needs
-
--- src/rows.rt:75:31
-enum-known-key : tie.Need-enum-known-key
-enum-known-key c = search needs
-
--- src/rows.rt:75:58
 next-number-requires : tie.Need-next-number-requires
 next-number-requires c κs = let a = c .before .before .before .before .before .args in let g = subst (NumberAt (a .line .now) (a .at) 16) (c .before .key .given .1) (c .before .before .before .read-number .ensures) in (g .3, omega arith)
 
--- src/rows.rt:76:28
-enum-told-2 : tie.Need-enum-told-2
-enum-told-2 c = search needs
-
--- src/rows.rt:77:35
-enum-known-place : tie.Need-enum-known-place
-enum-known-place c = search needs
-
--- src/rows.rt:77:65
 next-number-requires-2 : tie.Need-next-number-requires-2
 next-number-requires-2 c κs = let a = c .before .before .before .before .before .before .before .before .before .args in let g = subst (NextAt (a .line .now) _ 16) (c .before .place .given .1) (c .before .before .before .next-number .ensures) in (g .3, omega arith)
 
--- src/rows.rt:78:32
-enum-told-3 : tie.Need-enum-told-3
-enum-told-3 c = search needs
-
--- src/rows.rt:79:39
-enum-known-size : tie.Need-enum-known-size
-enum-known-size c = search needs
-
--- src/rows.rt:82:27
 cast-t15 : tie.Need-cast-t15
 cast-t15 c =
     let a = c .before .before .before .before .before .before .before .before .before .before .before .before .before .args in
     let i = subst (NextAt (a .line .now) _ 8) (c .before .size .given .1) (c .before .before .before .next-number2 .ensures) in search (needs, i .4)
 
--- src/rows.rt:69:1
 returns : tie.Need-returns
 returns c = triple-first _ _ (c .before .before .before .before .pre) (subst (NumberAt _ _ 16) (c .enum-told .given .1) (c .before .before .read-number .ensures))
 
--- src/rows.rt:69:1
 returns-2 : tie.Need-returns-2
 returns-2 c = let a = c .before .before .before .before .before .before .before .before .args in
     let g = subst (NumberAt (a .line .now) (a .at) 16) (c .before .before .before .before .key .given .1) (c .before .before .before .before .before .before .read-number .ensures) in
     triple-second _ _ (c .before .before .before .before .before .before .before .before .pre) _ _ (g .0) (g .1) (subst (NextAt (a .line .now) _ 16) (c .enum-told2 .given .1) (c .before .before .next-number .ensures))
 
--- src/rows.rt:69:1
 returns-3 : tie.Need-returns-3
 returns-3 c = let a = c .before .before .before .before .before .before .before .before .before .before .before .before .args in
     let g = subst (NumberAt (a .line .now) (a .at) 16) (c .before .before .before .before .before .before .before .before .key .given .1) (c .before .before .before .before .before .before .before .before .before .before .read-number .ensures) in
     let h = subst (NextAt (a .line .now) _ 16) (c .before .before .before .before .place .given .1) (c .before .before .before .before .before .before .next-number .ensures) in
     triple-third _ _ (c .before .before .before .before .before .before .before .before .before .before .before .before .pre) _ _ (g .0) (g .1) _ _ h (subst (NextAt (a .line .now) _ 8) (c .enum-told3 .given .1) (c .before .before .next-number2 .ensures))
 
--- src/rows.rt:69:1
 returns-4 : tie.Need-returns-4
 returns-4 c = let a = c .before .before .before .before .before .before .before .before .before .before .before .before .before .args in
     let g = subst (NumberAt (a .line .now) (a .at) 16) (c .before .before .before .before .before .before .before .before .before .key .given .1) (c .before .before .before .before .before .before .before .before .before .before .before .read-number .ensures) in
@@ -81,15 +42,15 @@ pub read-triple-spec : {M : Type 1} → statement M
 read-triple-spec =
     tie.close
     (tie.spec
-    read-number-requires
-    enum-told
-    enum-known-key
+    (λ c κs. search needs)
+    (λ c. search needs)
+    (λ c. search needs)
     next-number-requires
-    enum-told-2
-    enum-known-place
+    (λ c. search needs)
+    (λ c. search needs)
     next-number-requires-2
-    enum-told-3
-    enum-known-size
+    (λ c. search needs)
+    (λ c. search needs)
     cast-t15
     returns
     returns-2

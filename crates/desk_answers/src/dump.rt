@@ -1,0 +1,37 @@
+// All frames of a pool, one to a line.
+ghost use mathlib.Core.Path.{_≡_};
+ghost use Prim.Native.Nat.{_≤_};
+ghost use lib.ListN.{length};
+ghost use Rattle.desk_lines.specs.Orders.{dump as dump-order};
+ghost use Rattle.desk_answers.specs.Promise.{Replies};
+use frame::WriteAnswer;
+
+// The number of a frame that is not there.
+const NO_NODE: u32 = 14;
+
+// Writes the frames into the first bytes of a text, and tells their length. A pool of 3,360 bytes has at most 16 nodes, and its frames
+// have room in 4,096.
+pub fn dump(pool: &[u8], text: &mut [u8]) -> usize
+    requires { ⌜ (length (now pool) ≡ 3360) × (length (now text) ≡ 4096) ⌝ }
+    ensures { λ r. ⌜ Replies dump-order (now (pool .entry)) (now (text .entry))
+        (record { count = r; pool = now (pool .entry); text = now (text .exit) }) ⌝ }
+{
+    let mut at = 0;
+    let mut i = 0;
+    while i < 16 {
+        match index::frame(pool, i, &mut text[at..]) {
+            WriteAnswer::Done(n) => {
+                text[at + n] = b'\n';
+                at = at + n + 1;
+                i += 1;
+            }
+            WriteAnswer::Refused(n) => {
+                if n == NO_NODE {
+                    return at;
+                }
+                return desk_text::say_refused(text, n);
+            }
+        }
+    }
+    at
+}

@@ -1,0 +1,89 @@
+// The desk's answers: a line that was kept, answered on the desk's pool, as text in bytes that are lent.
+ghost use mathlib.Core.Path.{_≡_};
+ghost use Prim.Native.Nat.{_≤_};
+ghost use lib.ListN.{length};
+ghost use Rattle.desk_lines.specs.Orders.{ordered};
+ghost use Rattle.desk_lines.specs.Parts.{held};
+ghost use Rattle.desk_answers.specs.Promise.{opened, Answers, Changes, Replies};
+
+mod dump; // all frames
+mod part; // the next part of a line
+
+use desk_lines::Order;
+use dump::dump;
+use index::BatchAnswer;
+use model::Operation;
+use model::Settings;
+pub use part::Taken;
+pub use part::take_part;
+
+// The number of a line that is malformed or too long.
+const MALFORMED: u32 = 15;
+
+// Makes the desk's pool, of 16 nodes, order 4 and minimum 2, one empty leaf, whatever it held.
+pub fn open(pool: &mut [u8; 3360])
+    ensures { λ _. ⌜ now (pool .exit) ≡ opened ⌝ }
+{
+    let desk = Settings {
+        nodes: 16,
+        order: 4,
+        minimum: 2,
+    };
+    index::open(pool, desk);
+}
+
+// Answers the line of which `n` bytes are kept (more than 255: it was too long) with a text in the first bytes of `text`, and tells its
+// length.
+pub fn answer(pool: &mut [u8; 3360], line: &[u8; 255], n: usize, text: &mut [u8; 4096]) -> usize
+    ensures { λ r. ⌜ Answers (ordered (held (record { count = n; bytes = now (line .entry) }))) (now (pool .entry)) (now (text .entry))
+        (record { count = r; pool = now (pool .exit); text = now (text .exit) }) ⌝ }
+{
+    if desk_lines::LONGEST < n {
+        return desk_text::say_refused(text, MALFORMED);
+    }
+    let bytes: &[u8] = line;
+    let read = desk_lines::read_order(&bytes[..n]);
+    let order = read.order;
+    let keys = read.keys;
+    let places = read.places;
+    let sizes = read.sizes;
+    match order {
+        Order::Set(m) => change(
+            pool,
+            &keys[..m],
+            &places[..m],
+            &sizes[..m],
+            Operation::SetEach,
+            text,
+        ),
+        Order::Drop(m) => change(
+            pool,
+            &keys[..m],
+            &places[..0],
+            &sizes[..0],
+            Operation::Remove,
+            text,
+        ),
+        Order::Dump => dump(pool, text),
+        Order::Malformed => desk_text::say_refused(text, MALFORMED),
+    }
+}
+
+// One batch.
+fn change(
+    pool: &mut [u8],
+    keys: &[u64],
+    places: &[u64],
+    sizes: &[u32],
+    op: Operation,
+    text: &mut [u8],
+) -> usize
+    requires { ⌜ 89 ≤ length (now text) ⌝ }
+    ensures { λ r. ⌜ Changes (record { operation = op; places = now (places .entry); sizes = now (sizes .entry); keys = now (keys .entry) })
+        (now (pool .entry)) (now (text .entry)) (record { count = r; pool = now (pool .exit); text = now (text .exit) }) ⌝ }
+{
+    match index::batch(pool, keys, places, sizes, op) {
+        BatchAnswer::Done(counts) => desk_text::say_done(text, counts),
+        BatchAnswer::Refused(n) => desk_text::say_refused(text, n),
+    }
+}
