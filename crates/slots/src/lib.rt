@@ -7,15 +7,15 @@ mod header; // the settings of a pool, and a new pool
 mod raw; // slots as they are stored, of any pool
 mod node; // one node: read, changed and given up
 mod pair; // rows that go from a node to another
-mod look; // a key among the rows of a node, and the lowest unused slot
+mod find; // a key among the rows of a node, and the lowest unused slot
 
+pub use find::key_at;
+pub use find::lowest_unused;
+pub use find::search;
 pub use header::layout;
 pub use header::open_pool;
 pub use header::settings;
 pub use header::write_header;
-pub use look::key_at;
-pub use look::lowest_unused;
-pub use look::search;
 pub use node::count;
 pub use node::insert_row;
 pub use node::kind;

@@ -9,8 +9,8 @@ use Rattle.words.specs.Words.{words}
 use Rattle.slots.specs.Nodes.{rowsAt}
 use Rattle.slots.specs.Search.{keyAt}
 use Rattle.slots.proofs.Finds.{below-is, all-below, none-below, found-at, found-not, found-end}
-use Rattle.slots.proofs.look.search.Statement.{statement}
-use Rattle.slots.proofs.look.search.Tie as tie
+use Rattle.slots.proofs.find.search.Statement.{statement}
+use Rattle.slots.proofs.find.search.Tie as tie
 
 abbrev Inv-loop : tie.InvT-loop
 Inv-loop pool st s key n low₀ high₀ low high =

@@ -8,8 +8,8 @@ use Rattle.words.specs.Words.{words}
 use Rattle.slots.specs.Nodes as N
 use Rattle.slots.specs.Search.{Below}
 use Rattle.slots.proofs.Nodes.{length-nodes}
-use Rattle.slots.proofs.look.lowest_unused.Statement.{statement}
-use Rattle.slots.proofs.look.lowest_unused.Tie as tie
+use Rattle.slots.proofs.find.lowest_unused.Statement.{statement}
+use Rattle.slots.proofs.find.lowest_unused.Tie as tie
 
 abbrev Inv-loop : tie.InvT-loop
 Inv-loop pool st from nodes s₀ s = (s ≤ nodes) × ((nodes ≡ st .nodes) × Below (N.nodes st (words pool)) s)

@@ -2,8 +2,8 @@
 use mathlib.Core.Path.{ap}
 use borrow.Author.Needs.{needs}
 use Rattle.slots.specs.declared.Row.{Row}
-use Rattle.slots.proofs.look.key_at.Statement.{statement}
-use Rattle.slots.proofs.look.key_at.Tie as tie
+use Rattle.slots.proofs.find.key_at.Statement.{statement}
+use Rattle.slots.proofs.find.key_at.Tie as tie
 
 returns : tie.Need-returns
 returns c = ap (λ (r : Row). r .key) (c .row-at .ensures)
