@@ -1,25 +1,19 @@
-/* The index, for C. A B-tree of 8-byte keys in a pool of bytes that the caller lends; nothing is allocated and nothing is kept between calls.
+/* The index, for C and C++. A B-tree of 8-byte keys in a pool of bytes that the caller lends; nothing is allocated and nothing is kept
+ * between calls.
  *
- * Every function but alarm_pool_len returns 0 if the call was done, and else the number of a refusal (below). A refused call leaves every
- * buffer as it was, the small ones too. A slice is a pointer and a count of its elements; an array is a pointer to that many.
+ * Every function but alarm_pool_len returns ALARM_DONE, 0, if the call was done, and else the number of a refusal (below). A refused call
+ * leaves every buffer as it was, the small ones too. A slice is a pointer and a count of its elements; an array is a pointer to that many.
  *
- * What the caller owes: each pointer is valid for its count through the call and aligned for its type, also where the count is 0; a
- * buffer that is not const overlaps no other one of the call; a bool is 0 or 1.
+ * What the caller owes: each pointer is valid for its count through the call and aligned for its type; a buffer that is not const overlaps
+ * no other one of the call; a bool is 0 or 1. The pointer of a slice whose count is 0 is not read: NULL will do.
  *
  * A reference is a place and a size. Place 0 marks a deletion: such an entry is dead, the others are live. Keys ascend, equal
  * neighbours allowed.
  *
- * An entry in `out` is 24 bytes: key, place, size, each 8 bytes little-endian. The first entries that fit whole are written, and
- * no byte behind them is touched.
+ * THREADS: there are no globals, and a call touches what it is lent and nothing else. So calls on different pools may run at once, and so
+ * may calls on one pool that take it as const, each with buffers of its own. alarm_open and the batches need their pool alone.
  *
- *   1  opening: a setting or the pool's length is wrong      9  a line of odd length, or a byte that is not 0-9, a-f
- *   2  any other call on a pool: it is not sound            10  header known, rest no whole number of entries
- *   3  a batch longer than order                            11  more than 32 entries
- *   4  places, sizes and keys differ in number              12  keys not strictly ascending
- *   5  keys descend somewhere                               13  header not 0 or 1
- *   6  a batch that may add, depth already 8                14  no i-th node
- *   7  a batch that may add, too few unused nodes           16  the line buffer is too short
- *   8  a line to read is empty
+ * STACK: at most 16 KB a call; the gate holds each call to it. docs/POOL.md has what each was seen to take.
  */
 #ifndef ALARM_INDEX_H
 #define ALARM_INDEX_H
@@ -27,6 +21,62 @@
 #include <stdbool.h>
 #include <stddef.h>
 #include <stdint.h>
+
+/* The version of these declarations: the first number rises where a call or a name changes its meaning, the second where one is added. */
+#define ALARM_INDEX_MAJOR 1
+#define ALARM_INDEX_MINOR 0
+
+/* The layout of a pool (docs/POOL.md). A pool of another layout is refused as ALARM_NOT_SOUND. */
+#define ALARM_LAYOUT 1
+
+/* The archive's counts have 64 bits, and its flags one byte. Where the compiler stops here, the archive is not for this processor. */
+typedef char alarm_size_t_has_8_bytes[sizeof(size_t) == 8 ? 1 : -1];
+typedef char alarm_bool_has_1_byte[sizeof(bool) == 1 ? 1 : -1];
+
+/* What a function returns. Of the refusals that apply, the first in this list is given. */
+enum alarm_refusal {
+    ALARM_DONE = 0,
+    ALARM_WRONG_SETTING = 1,       /* opening: a setting or the pool's length is wrong */
+    ALARM_NOT_SOUND = 2,           /* any other call on a pool: it is not sound */
+    ALARM_BATCH_TOO_LONG = 3,      /* a batch longer than order */
+    ALARM_REFERENCES_DIFFER = 4,   /* places, sizes and keys differ in number */
+    ALARM_KEYS_DESCEND = 5,        /* keys descend somewhere */
+    ALARM_TOO_DEEP = 6,            /* any batch but alarm_remove: the depth is already 8 */
+    ALARM_TOO_FEW_NODES = 7,       /* any batch but alarm_remove: n keys at depth d, fewer than n * max(d, 2) + 4 unused nodes */
+    ALARM_LINE_EMPTY = 8,          /* a line to read is empty */
+    ALARM_LINE_NOT_HEX = 9,        /* a line of odd length, or a byte that is not 0-9, a-f */
+    ALARM_LINE_NOT_WHOLE = 10,     /* header known, rest no whole number of entries */
+    ALARM_TOO_MANY_ENTRIES = 11,   /* more than 32 entries */
+    ALARM_KEYS_NOT_ASCENDING = 12, /* keys not strictly ascending */
+    ALARM_UNKNOWN_HEADER = 13,     /* header not 0 or 1 */
+    ALARM_NO_NODE = 14,            /* no i-th node */
+    ALARM_LINE_MALFORMED = 15,     /* of the desk program alone: no function returns it */
+    ALARM_LINE_TOO_SHORT = 16      /* the line buffer is too short */
+};
+
+/* The places of counts, */
+enum { ALARM_ADDED = 0, ALARM_REPLACED = 1, ALARM_REMOVED = 2, ALARM_NOTHING = 3 };
+/* of totals, */
+enum { ALARM_LIVE = 0, ALARM_DEAD = 1, ALARM_SIZE_SUM = 2 };
+/* of told, the third by a scan alone, */
+enum { ALARM_WRITTEN = 0, ALARM_MORE = 1, ALARM_OPENED = 2 };
+/* and of head, with the kinds that stand in the first of them. */
+enum { ALARM_KIND = 0, ALARM_ENTRIES = 1 };
+enum { ALARM_INTERIOR = 0, ALARM_LEAF = 1 };
+
+enum {
+    ALARM_NODES_LEAST = 8,
+    ALARM_NODES_MOST = 16384,
+    ALARM_ORDER_LEAST = 4,
+    ALARM_ORDER_MOST = 32,
+    ALARM_DEPTH_MOST = 8,
+    ALARM_ENTRY_LEN = 24,     /* an entry in `out`, in bytes */
+    ALARM_FRAME_ENTRIES = 32, /* the most entries of a frame */
+    ALARM_LINE_LEN = 1794     /* the longest line of a frame */
+};
+
+/* alarm_pool_len as a constant, for a pool that is static: static uint8_t pool[ALARM_POOL_LEN(16, 4)]. The settings must be in limits. */
+#define ALARM_POOL_LEN(nodes, order) (sizeof(uint64_t) * (4 + (nodes) * (2 + 6 * (order))))
 
 #ifdef __cplusplus
 extern "C" {
@@ -59,13 +109,16 @@ uint32_t alarm_remove(uint8_t *pool, size_t pool_n, const uint64_t *keys, size_t
 uint32_t alarm_compare(uint8_t *pool, size_t pool_n, const uint64_t *keys, size_t keys_n, bool holds, uint64_t expected_place,
                        uint32_t expected_size, bool set, uint64_t place, uint32_t size, uint64_t counts[4]);
 
+/* LISTINGS: an entry in `out` is 24 bytes, key, place, size, each 8 bytes little-endian (alarm_entry_at reads one). The first entries that
+ * fit whole are written, and no byte behind them is touched. */
+
 /* Lists one entry for each key that is present, dead entries too, equal keys each time. told: entries written, and 1 if another was
  * due, else 0. Refused as 2, 5. */
 uint32_t alarm_get(const uint8_t *pool, size_t pool_n, const uint64_t *keys, size_t keys_n, uint8_t *out, size_t out_n, uint64_t told[2]);
 
 /* Lists the live entries from start to end whose size is `least` or more, upwards, or downwards if `down`. An end that is not bounded
  * reads neither of its other two values; a bounded one is part of the range if included. told: entries written, 1 if another was due,
- * else 0, and nodes opened. Refused as 2. */
+ * else 0, and nodes opened. Refused as 2. alarm_scan_range, below, takes the bounds as a struct. */
 uint32_t alarm_scan(const uint8_t *pool, size_t pool_n, bool start_bounded, bool start_included, uint64_t start, bool end_bounded,
                     bool end_included, uint64_t end, bool down, uint32_t least, uint8_t *out, size_t out_n, uint64_t told[3]);
 
@@ -86,6 +139,53 @@ uint32_t alarm_write_leaf(uint64_t count, const uint64_t keys[32], const uint64_
 /* Writes an interior of the first `count` entries. len: the line's length. Refused as 11, 12, 16. */
 uint32_t alarm_write_interior(uint64_t count, const uint64_t keys[32], const uint32_t children[32], const uint32_t live[32],
                               const uint32_t dead[32], const uint64_t sums[32], uint8_t *line, size_t line_n, uint64_t *len);
+
+/* IN THIS HEADER ALONE: no symbol of the archive. */
+
+struct alarm_entry {
+    uint64_t key;
+    uint64_t place;
+    uint32_t size;
+};
+
+/* Eight bytes, little-endian. */
+static inline uint64_t alarm_word(const uint8_t *bytes) {
+    uint64_t word = 0;
+    int i;
+    for (i = 7; i >= 0; i--)
+        word = word << 8 | bytes[i];
+    return word;
+}
+
+/* The i-th entry of a listing, counted from 0: i is below told[ALARM_WRITTEN]. */
+static inline struct alarm_entry alarm_entry_at(const uint8_t *out, size_t i) {
+    const uint8_t *bytes = out + ALARM_ENTRY_LEN * i;
+    struct alarm_entry entry;
+    entry.key = alarm_word(bytes);
+    entry.place = alarm_word(bytes + 8);
+    entry.size = (uint32_t)alarm_word(bytes + 16);
+    return entry;
+}
+
+/* How far a range goes at one of its ends. */
+enum alarm_bound { ALARM_UNBOUNDED = 0, ALARM_INCLUDED = 1, ALARM_EXCLUDED = 2 };
+
+/* What a scan lists. All zeros: every live entry, upwards. */
+struct alarm_range {
+    enum alarm_bound from; /* unbounded: start is not read */
+    uint64_t start;
+    enum alarm_bound to; /* unbounded: end is not read */
+    uint64_t end;
+    bool down;
+    uint32_t least; /* the smallest size listed */
+};
+
+/* alarm_scan over a range. */
+static inline uint32_t alarm_scan_range(const uint8_t *pool, size_t pool_n, const struct alarm_range *range, uint8_t *out, size_t out_n,
+                                        uint64_t told[3]) {
+    return alarm_scan(pool, pool_n, range->from != ALARM_UNBOUNDED, range->from == ALARM_INCLUDED, range->start,
+                      range->to != ALARM_UNBOUNDED, range->to == ALARM_INCLUDED, range->end, range->down, range->least, out, out_n, told);
+}
 
 #ifdef __cplusplus
 }

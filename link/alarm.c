@@ -1,39 +1,64 @@
 /* Opens a pool, sets, compares, removes, gets, scans and frames, and prints what each call answered. What it must print: alarm.stdout.
  *
- *     rt staticlib index_c
- *     cc -Iinclude link/alarm.c -Ltarget/staticlib -lindex_c -o target/alarm && target/alarm | diff - link/alarm.stdout
+ *     cc -Iinclude link/alarm.c "$(link/archive)" -o target/alarm && target/alarm | diff - link/alarm.stdout
  */
 #include "alarm_index.h"
 #include <inttypes.h>
 #include <stdio.h>
-#include <stdlib.h>
 #include <string.h>
 
-static void numbers(const char *call, uint32_t code, const uint64_t *n, size_t len) {
+/* docs/POOL.md has both lengths */
+typedef char the_desk_pool[ALARM_POOL_LEN(16, 4) == 3360 ? 1 : -1];
+typedef char the_largest_pool[ALARM_POOL_LEN(ALARM_NODES_MOST, ALARM_ORDER_MOST) == 25428000 ? 1 : -1];
+
+static uint8_t pool[ALARM_POOL_LEN(16, 4)];
+static const size_t n = sizeof pool;
+
+static void numbers(const char *call, uint32_t code, const uint64_t *told, size_t len) {
     printf("%s %" PRIu32 ":", call, code);
     for (size_t i = 0; i < len; i++)
-        printf(" %" PRIu64, n[i]);
+        printf(" %" PRIu64, told[i]);
     putchar('\n');
 }
 
-static uint64_t word(const uint8_t *p) {
-    uint64_t n = 0;
-    for (int i = 7; i >= 0; i--)
-        n = n * 256 + p[i];
-    return n;
+static void entries(const uint8_t *out, uint64_t len) {
+    for (size_t i = 0; i < len; i++) {
+        const struct alarm_entry e = alarm_entry_at(out, i);
+        printf("  %" PRIu64 " at %" PRIu64 ", %" PRIu32 " bytes\n", e.key, e.place, e.size);
+    }
 }
 
-static void entries(const uint8_t *out, uint64_t len) {
-    for (uint64_t i = 0; i < len; i++)
-        printf("  %" PRIu64 " at %" PRIu64 ", %" PRIu64 " bytes\n", word(out + 24 * i), word(out + 24 * i + 8), word(out + 24 * i + 16));
+/* the constant is the length that the archive gives, for all settings */
+static bool lengths_agree(void) {
+    for (uint64_t nodes = ALARM_NODES_LEAST; nodes <= ALARM_NODES_MOST; nodes++)
+        for (uint64_t order = ALARM_ORDER_LEAST; order <= ALARM_ORDER_MOST; order++)
+            if (alarm_pool_len(nodes, order, 1) != ALARM_POOL_LEN(nodes, order))
+                return false;
+    return true;
+}
+
+/* a slice of no elements may be NULL, in every call that takes one */
+static void without_elements(void) {
+    uint64_t counts[4], told[3], head[2], wide[32] = {0}, keys[32] = {0}, len = 0, totals[3] = {7, 7, 7};
+    uint32_t narrow[32] = {0}, live[32] = {0}, dead[32] = {0};
+    numbers("no set", alarm_set(pool, n, NULL, 0, 1, 1, counts), counts, 4);
+    numbers("no set_each", alarm_set_each(pool, n, NULL, 0, NULL, 0, NULL, 0, counts), counts, 4);
+    numbers("no remove", alarm_remove(pool, n, NULL, 0, counts), counts, 4);
+    numbers("no compare", alarm_compare(pool, n, NULL, 0, false, 0, 0, false, 0, 0, counts), counts, 4);
+    numbers("no get", alarm_get(pool, n, NULL, 0, NULL, 0, told), told, 2);
+    const struct alarm_range all = {ALARM_UNBOUNDED, 0, ALARM_UNBOUNDED, 0, false, 0};
+    numbers("no scan", alarm_scan_range(pool, n, &all, NULL, 0, told), told, 3);
+    numbers("no frame", alarm_frame(pool, n, 0, NULL, 0, &len), &len, 1);
+    printf("no read_frame %" PRIu32 "\n", alarm_read_frame(NULL, 0, head, keys, wide, narrow, live, dead));
+    numbers("no write_leaf", alarm_write_leaf(0, keys, wide, narrow, NULL, 0, &len), &len, 1);
+    numbers("no write_interior", alarm_write_interior(0, keys, narrow, live, dead, wide, NULL, 0, &len), &len, 1);
+    printf("no pool %" PRIu32 "\n", alarm_open(NULL, 0, 16, 4, 2));
+    numbers("no pool", alarm_totals(NULL, 0, totals), totals, 3);
 }
 
 int main(void) {
-    uint64_t n = alarm_pool_len(16, 4, 2);
-    printf("pool %" PRIu64 ", with a wrong minimum %" PRIu64 "\n", n, alarm_pool_len(16, 4, 3));
-    uint8_t *pool = malloc(n);
-    if (!pool)
-        return 1;
+    printf("pool %" PRIu64 ", with a wrong minimum %" PRIu64 "\n", alarm_pool_len(16, 4, 2), alarm_pool_len(16, 4, 3));
+    printf("lengths %s\n", lengths_agree() ? "agree" : "differ");
     memset(pool, 170, n);
 
     /* an unopened pool is refused, and the small buffer is as it was */
@@ -41,6 +66,7 @@ int main(void) {
     numbers("totals", alarm_totals(pool, n, totals), totals, 3);
     printf("open %" PRIu32 "\n", alarm_open(pool, n - 1, 16, 4, 2));
     printf("open %" PRIu32 "\n", alarm_open(pool, n, 16, 4, 2));
+    printf("layout %s\n", pool[0] == ALARM_LAYOUT ? "agrees" : "differs");
 
     const uint64_t keys[5] = {1, 2, 3, 4, 5}, places[4] = {257, 258, 259, 260}, down[2] = {2, 1};
     const uint32_t sizes[4] = {16, 16, 16, 16};
@@ -51,10 +77,10 @@ int main(void) {
     numbers("remove", alarm_remove(pool, n, down, 2, counts), counts, 4);
     numbers("totals", alarm_totals(pool, n, totals), totals, 3);
 
-    uint8_t line[1794];
+    uint8_t line[ALARM_LINE_LEN];
     uint64_t len = 0;
     uint32_t code;
-    for (uint64_t i = 0; (code = alarm_frame(pool, n, i, line, sizeof line, &len)) == 0; i++)
+    for (uint64_t i = 0; (code = alarm_frame(pool, n, i, line, sizeof line, &len)) == ALARM_DONE; i++)
         printf("%.*s\n", (int)len, (const char *)line);
     printf("frame %" PRIu32 ", the last had %" PRIu64 " digits\n", code, len);
 
@@ -63,26 +89,28 @@ int main(void) {
     uint32_t narrow[32], live[32], dead[32];
     numbers("read_frame", alarm_read_frame(line, len, head, k, wide, narrow, live, dead), head, 2);
     printf("  %" PRIu64 " at %" PRIu64 ", %" PRIu32 " bytes\n", k[1], wide[1], narrow[1]);
-    numbers("write_leaf", alarm_write_leaf(head[1], k, wide, narrow, line, sizeof line, &len), &len, 1);
+    numbers("write_leaf", alarm_write_leaf(head[ALARM_ENTRIES], k, wide, narrow, line, sizeof line, &len), &len, 1);
     numbers("write_leaf", alarm_write_leaf(33, k, wide, narrow, line, sizeof line, &len), &len, 1);
     memset(line + len, '0', 8);
     numbers("read_frame", alarm_read_frame(line, len + 8, head, k, wide, narrow, live, dead), head, 2);
     alarm_frame(pool, n, 0, line, sizeof line, &len);
     numbers("read_frame", alarm_read_frame(line, len, head, k, wide, narrow, live, dead), head, 2);
-    printf("  child %" PRIu32 " has %" PRIu32 " live, %" PRIu32 " dead, %" PRIu64 " bytes, up to %" PRIu64 "\n", narrow[0], live[0], dead[0],
-           wide[0], k[0]);
-    numbers("write_interior", alarm_write_interior(head[1], k, narrow, live, dead, wide, line, 4, &len), &len, 1);
-    numbers("write_interior", alarm_write_interior(head[1], k, narrow, live, dead, wide, line, sizeof line, &len), &len, 1);
+    printf("  child %" PRIu32 " has %" PRIu32 " live, %" PRIu32 " dead, %" PRIu64 " bytes, up to %" PRIu64 "\n", narrow[0], live[0],
+           dead[0], wide[0], k[0]);
+    numbers("write_interior", alarm_write_interior(head[ALARM_ENTRIES], k, narrow, live, dead, wide, line, 4, &len), &len, 1);
+    numbers("write_interior", alarm_write_interior(head[ALARM_ENTRIES], k, narrow, live, dead, wide, line, sizeof line, &len), &len, 1);
 
-    uint8_t out[5 * 24];
+    uint8_t out[5 * ALARM_ENTRY_LEN];
     uint64_t told[3];
     const uint64_t asked[3] = {2, 2, 9};
     numbers("get", alarm_get(pool, n, asked, 3, out, sizeof out, told), told, 2);
-    entries(out, told[0]);
+    entries(out, told[ALARM_WRITTEN]);
+    const struct alarm_range behind_three = {ALARM_EXCLUDED, 3, ALARM_INCLUDED, 5, false, 0};
     numbers("scan", alarm_scan(pool, n, true, false, 3, true, true, 5, false, 0, out, sizeof out, told), told, 3);
-    entries(out, told[0]);
+    numbers("scan_range", alarm_scan_range(pool, n, &behind_three, out, sizeof out, told), told, 3);
+    entries(out, told[ALARM_WRITTEN]);
     numbers("scan", alarm_scan(pool, n, false, false, 0, false, false, 0, true, 0, out, 49, told), told, 3);
-    entries(out, told[0]);
+    entries(out, told[ALARM_WRITTEN]);
     numbers("scan", alarm_scan(pool, n, false, false, 0, false, false, 0, false, 17, out, sizeof out, told), told, 3);
 
     /* an expectation that is met, one that is not, and a removal of what is absent */
@@ -92,6 +120,6 @@ int main(void) {
     numbers("compare", alarm_compare(pool, n, keys + 4, 1, true, 261, 16, false, 0, 0, counts), counts, 4);
     numbers("remove", alarm_remove(pool, n, keys + 4, 1, counts), counts, 4);
     numbers("totals", alarm_totals(pool, n, totals), totals, 3);
-    free(pool);
+    without_elements();
     return 0;
 }
