@@ -1,8 +1,11 @@
-/* How many bytes of stack the calls take, at order 4 with trees of depth 7 and 8: each call runs on a thread of its own whose stack is
- * painted first, and what is no longer painted after the call was used. Counted from the frame of the function that makes the call.
- * Ends with 1 where a call takes more than MOST.
+/* How many bytes of stack each call takes, at orders 4, 16 and 32, on the deepest trees that there are: depth 7 for a batch that sets, for
+ * it is refused at 8, and depth 8 for any other call. Each call runs on a thread of its own whose stack is painted first, and what is no
+ * longer painted after the call was used. Counted from the frame of the function that makes the call. Ends with 1 where a call takes more
+ * than MOST.
  *
- *     cc -O1 -pthread -Iinclude link/stack.c "$(link/archive)" -o target/stack && target/stack
+ *     cc -O1 -pthread -Wl,-z,now -Iinclude link/stack.c "$(link/archive)" -o target/stack && target/stack
+ *
+ * (-z now: what the loader takes to find memcpy at the first call is not the call's.)
  */
 #include "alarm_index.h"
 #include <pthread.h>
@@ -10,54 +13,79 @@
 #include <stdlib.h>
 #include <string.h>
 
-enum { MOST = 1 << 14, STACK = 1 << 18, PAINT = 0xa5, NODES = 16384, ORDER = 4 };
+enum { MOST = 1 << 14, STACK = 1 << 18, PAINT = 0xa5, NODES = 2048, TURNS = 200, GAP = 64 };
 
-static uint8_t *pool, *out, line[64 * ORDER + 2];
-static uint64_t pool_n, len, top;
+static uint8_t pool[ALARM_POOL_LEN(NODES, ALARM_ORDER_MOST)], out[NODES * ALARM_ORDER_MOST * ALARM_ENTRY_LEN], line[ALARM_LINE_LEN];
+static uint64_t order, minimum, pool_n, top, batch_n, len, counts[4], told[3], head[2];
+static uint64_t keys[32], places[32], batch[32];
+static uint32_t sizes[32], live[32], dead[32];
 
-/* four new keys above all others */
-static uint32_t set(void) {
-    uint64_t counts[4], keys[ORDER];
-    for (int i = 0; i < ORDER; i++)
-        keys[i] = top + 1 + i;
-    uint32_t code = alarm_set(pool, pool_n, keys, ORDER, 256, 16, counts);
-    if (code == 0)
-        top += ORDER;
-    return code;
+/* TREES. A sound pool written by hand (docs/POOL.md), since batches reach such depths at order 32 only after a long way. The nodes on the
+ * way to the last leaf, and the sibling before each of them, have `width` rows; any other node has one. So there are few nodes, and yet a
+ * change of the last leaf goes all the way up: where these nodes are full, a key above all others splits each of them and the root. */
+
+enum wide { THIN, BESIDE, ON_THE_WAY };
+static uint64_t slots, width;
+
+static void put(uint64_t slot, uint64_t word, uint64_t n) {
+    uint8_t *at = pool + 8 * (4 + slot * (2 + 6 * order) + word);
+    for (int i = 0; i < 8; i++)
+        at[i] = (uint8_t)(n >> 8 * i);
 }
 
-/* four keys of as many leaves */
-static uint32_t take(void) {
-    uint64_t counts[4], keys[ORDER];
-    for (int i = 0; i < ORDER; i++)
-        keys[i] = 1 + top * i / ORDER;
-    return alarm_remove(pool, pool_n, keys, ORDER, counts);
+static void put_row(uint64_t slot, uint64_t i, uint64_t key, uint64_t body, uint64_t size) {
+    put(slot, 2 + 3 * i, key);
+    put(slot, 3 + 3 * i, body);
+    put(slot, 4 + 3 * i, size);
 }
 
-static uint32_t get(void) {
-    uint64_t told[2], keys[ORDER];
-    for (int i = 0; i < ORDER; i++)
-        keys[i] = 2 + top * i / ORDER;
-    return alarm_get(pool, pool_n, keys, ORDER, out, 24 * ORDER, told);
+/* Writes a node of a height into a slot, with all below it, and answers how many entries there are; the greatest key is `top`. */
+static uint64_t plant(uint64_t slot, int height, enum wide wide) {
+    uint64_t rows = wide == THIN ? 1 : width, entries = 0;
+    put(slot, 0, height == 0 ? 1 : 2);
+    put(slot, 1, rows);
+    for (uint64_t i = 0; i < rows; i++) {
+        uint64_t child = slots, below = 1;
+        if (height == 0) {
+            put_row(slot, i, top += GAP, 256, 16);
+        } else {
+            slots++;
+            below = plant(child, height - 1, wide != ON_THE_WAY || i + 2 < rows ? THIN : i + 2 == rows ? BESIDE : ON_THE_WAY);
+            put_row(slot, i, top, child << 40 | below << 20, 16 * below);
+        }
+        entries += below;
+    }
+    return entries;
 }
 
-static uint32_t scan(void) {
-    uint64_t told[3];
-    return alarm_scan(pool, pool_n, 0, 0, 0, 0, 0, 0, 0, 0, out, 24 * top, told);
+static void tree(int depth, uint64_t rows) {
+    slots = 1, top = 0, width = rows;
+    pool_n = alarm_pool_len(NODES, order, minimum);
+    if (alarm_open(pool, pool_n, NODES, order, minimum))
+        exit(1);
+    plant(0, depth - 1, ON_THE_WAY);
+    if (alarm_totals(pool, pool_n, told))
+        exit(1);
 }
 
-static uint32_t totals(void) {
-    uint64_t t[3];
-    return alarm_totals(pool, pool_n, t);
-}
+/* CALLS, each with buffers that are not on its stack. */
 
-static uint32_t frame(void) { return alarm_frame(pool, pool_n, 7, line, sizeof line, &len); }
+static uint32_t length(void) { return alarm_pool_len(NODES, order, minimum) == 0; }
+static uint32_t opening(void) { return alarm_open(pool, pool_n, NODES, order, minimum); }
+static uint32_t totals(void) { return alarm_totals(pool, pool_n, told); }
+static uint32_t set(void) { return alarm_set(pool, pool_n, batch, batch_n, 256, 16, counts); }
+static uint32_t set_each(void) { return alarm_set_each(pool, pool_n, batch, batch_n, places, batch_n, sizes, batch_n, counts); }
+static uint32_t take(void) { return alarm_remove(pool, pool_n, batch, batch_n, counts); }
+static uint32_t compare(void) { return alarm_compare(pool, pool_n, batch, batch_n, false, 0, 0, true, 256, 16, counts); }
+static uint32_t get(void) { return alarm_get(pool, pool_n, batch, batch_n, out, sizeof out, told); }
+static uint32_t scan(void) { return alarm_scan(pool, pool_n, false, false, 0, false, false, 0, false, 0, out, sizeof out, told); }
+static uint32_t scan_down(void) { return alarm_scan(pool, pool_n, false, false, 0, false, false, 0, true, 0, out, sizeof out, told); }
+static uint32_t frame(void) { return alarm_frame(pool, pool_n, slots - 1, line, sizeof line, &len); }
+static uint32_t write_leaf(void) { return alarm_write_leaf(32, keys, places, sizes, line, sizeof line, &len); }
+static uint32_t write_interior(void) { return alarm_write_interior(32, keys, sizes, live, dead, places, line, sizeof line, &len); }
+static uint32_t read_frame(void) { return alarm_read_frame(line, len, head, keys, places, sizes, live, dead); }
 
-static uint32_t read_frame(void) {
-    static uint64_t head[2], keys[32], wide[32];
-    static uint32_t narrow[32], live[32], dead[32];
-    return alarm_read_frame(line, len, head, keys, wide, narrow, live, dead);
-}
+/* MEASURING */
 
 static uint32_t (*call)(void), code;
 static uint8_t *stack;
@@ -68,11 +96,11 @@ static void *run(void *unused) {
     const uint8_t *low = stack;
     while (*low == PAINT)
         low++;
-    used = (const uint8_t *)__builtin_frame_address(0) - low;
+    used = (size_t)((const uint8_t *)__builtin_frame_address(0) - low);
     return unused;
 }
 
-static void measure(uint32_t (*f)(void)) {
+static size_t measure(uint32_t (*f)(void)) {
     pthread_attr_t attr;
     pthread_t thread;
     memset(stack, PAINT, STACK);
@@ -81,33 +109,81 @@ static void measure(uint32_t (*f)(void)) {
     if (pthread_attr_setstack(&attr, stack, STACK) || pthread_create(&thread, &attr, run, NULL) || pthread_join(thread, NULL))
         exit(1);
     pthread_attr_destroy(&attr);
-}
-
-static void tell(const char *what, uint32_t (*f)(void)) {
-    measure(f);
     if (code || used > MOST)
         exit(1);
-    printf("%-11s %5zu bytes\n", what, used);
+    return used;
+}
+
+/* A batch of up to `order` keys that ascend: above all others in the first turn, and from then on anywhere. */
+static void choose(int turn) {
+    batch_n = 1 + (uint64_t)turn % order;
+    uint64_t key = turn == 0 ? top : (uint64_t)rand() % top;
+    for (uint64_t i = 0; i < batch_n; i++)
+        batch[i] = key += 1 + (turn % 3 == 0 ? 0 : (uint64_t)rand() % (GAP * order));
+}
+
+/* The most that a batch takes, over turns that start from trees of this depth, full and as short as they may be. */
+static size_t batches(uint32_t (*f)(void), int depth) {
+    size_t most = 0;
+    for (int turn = 0; turn < TURNS; turn++) {
+        tree(depth, turn % 2 == 0 ? order : minimum < 2 ? 2 : minimum);
+        choose(turn / 2);
+        size_t n = measure(f);
+        most = n > most ? n : most;
+    }
+    return most;
+}
+
+static size_t removals(void) {
+    size_t most = batches(take, 8);
+    for (uint64_t n = 1; n <= order; n++) { /* the last keys, of a path that is as short as it may be */
+        tree(8, minimum);
+        batch_n = n;
+        for (uint64_t i = 0; i < n; i++)
+            batch[i] = top - GAP * (n - 1 - i);
+        size_t m = measure(take);
+        most = m > most ? m : most;
+    }
+    return most;
+}
+
+enum { CALLS = 14 };
+static const char *names[CALLS] = {"pool_len", "open", "totals", "set", "set_each", "compare", "remove",
+                                   "get", "scan", "scan, down", "frame", "write_leaf", "write_interior", "read_frame"};
+static size_t seen[3][CALLS];
+
+static void at_order(uint64_t n, size_t *most) {
+    order = n, minimum = (n + 1) / 2;
+    *most++ = measure(length);
+    tree(1, 1);
+    *most++ = measure(opening);
+    tree(8, order);
+    *most++ = measure(totals);
+    *most++ = batches(set, 7);
+    *most++ = batches(set_each, 7);
+    *most++ = batches(compare, 7);
+    *most++ = removals();
+    *most++ = batches(get, 8);
+    tree(8, order);
+    *most++ = measure(scan);
+    *most++ = measure(scan_down);
+    *most++ = measure(frame);
+    for (uint64_t i = 0; i < 32; i++)
+        keys[i] = i;
+    *most++ = measure(write_leaf);
+    *most++ = measure(write_interior);
+    *most++ = measure(read_frame);
 }
 
 int main(void) {
-    pool_n = alarm_pool_len(NODES, ORDER, 2);
-    pool = malloc(pool_n);
-    out = malloc(24 << 16);
+    static const uint64_t orders[3] = {4, 16, 32};
     stack = aligned_alloc(4096, STACK);
-    if (!pool || !out || !stack || alarm_open(pool, pool_n, NODES, ORDER, 2))
+    if (!stack)
         return 1;
-    size_t most = 0;
-    for (measure(set); code == 0; measure(set))
-        most = used > most ? used : most;
-    if (code != 6 || most > MOST)
-        return 1;
-    printf("%-11s %5zu bytes at most, depth 1 to 7\n", "set", most);
-    tell("remove", take);
-    tell("get", get);
-    tell("scan", scan);
-    tell("totals", totals);
-    tell("frame", frame);
-    tell("read_frame", read_frame);
+    for (int i = 0; i < 3; i++)
+        at_order(orders[i], seen[i]);
+    printf("%-14s %8s %8s %8s\n", "bytes at order", "4", "16", "32");
+    for (int i = 0; i < CALLS; i++)
+        printf("%-14s %8zu %8zu %8zu\n", names[i], seen[0][i], seen[1][i], seen[2][i]);
     return 0;
 }
