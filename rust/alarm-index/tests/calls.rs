@@ -1,0 +1,217 @@
+//! Every call through the archive that is linked: what it answers, and that a refusal leaves the lent bytes as they were.
+use alarm_index::{
+    pool_len, raw, write_interior, write_leaf, Action, Branch, Counts, Direction, Entry, Expectation, Frame, Operation, Pool, Reference,
+    Refusal, Settings, Sift, Totals, View, ENTRY_LEN, FRAME_ENTRIES, LAYOUT, LINE_LEN,
+};
+use std::ops::Bound::{Excluded, Included, Unbounded};
+
+const DESK: Settings = Settings { nodes: 16, order: 4, minimum: 2 };
+const LEN: usize = pool_len(16, 4);
+
+fn entry(key: u64) -> Entry {
+    Entry { key, place: 256 + key, size: 16 }
+}
+
+/// The desk's pool with the keys 1 to 5, key k at place 256 + k and of size 16: leaves 1, 2, 3 and 4, 5.
+fn p() -> [u8; LEN] {
+    let mut bytes = [170; LEN];
+    let mut pool = Pool::open(&mut bytes, DESK).expect("opened");
+    pool.set_each(&[1, 2, 3, 4], &[257, 258, 259, 260], &[16; 4]).expect("done");
+    pool.set_each(&[5], &[261], &[16]).expect("done");
+    bytes
+}
+
+fn counts(added: u64, replaced: u64, removed: u64, nothing: u64) -> Counts {
+    Counts { added, replaced, removed, nothing }
+}
+
+/// Keys, whether another was due, and nodes opened.
+fn seen(bytes: &[u8], range: impl std::ops::RangeBounds<u64>, direction: Direction, sift: Sift, room: usize) -> (Vec<u64>, bool, u64) {
+    let mut out = vec![0; room * ENTRY_LEN];
+    let s = View::new(bytes).scan(range, direction, sift, &mut out).expect("scanned");
+    (s.entries.map(|e| e.key).collect(), s.more, s.opened)
+}
+
+#[test]
+fn lengths() {
+    for (nodes, order) in [(8, 4), (16, 4), (1000, 7), (16_384, 32)] {
+        let settings = Settings { nodes: nodes as u64, order: order as u64, minimum: 1 };
+        assert_eq!(settings.pool_len(), Some(pool_len(nodes, order)));
+    }
+    assert_eq!(Settings { minimum: 3, ..DESK }.pool_len(), None);
+    assert_eq!((LEN, pool_len(16_384, 32)), (3360, 25_428_000));
+    assert_eq!(p()[..8], LAYOUT.to_le_bytes());
+}
+
+#[test]
+fn opening_is_refused() {
+    let mut bytes = [170; LEN];
+    assert_eq!(Pool::open(&mut bytes[1..], DESK).err(), Some(Refusal::WrongSetting));
+    assert_eq!(Pool::open(&mut bytes, Settings { order: 3, ..DESK }).err(), Some(Refusal::WrongSetting));
+    assert_eq!(Pool::open(&mut [], DESK).err(), Some(Refusal::WrongSetting));
+    assert_eq!(bytes, [170; LEN]);
+}
+
+#[test]
+fn bytes_that_are_no_pool() {
+    let mut bytes = [170; LEN];
+    assert_eq!(View::new(&bytes).totals(), Err(Refusal::NotSound));
+    assert_eq!(View::new(&[]).totals(), Err(Refusal::NotSound));
+    assert_eq!(View::new(&bytes).get(&[1], &mut []).err(), Some(Refusal::NotSound));
+    assert_eq!(View::new(&bytes).scan(.., Direction::Up, Sift::All, &mut []).err(), Some(Refusal::NotSound));
+    assert_eq!(View::new(&bytes).frame(0, &mut []), Err(Refusal::NotSound));
+    assert_eq!(Pool::new(&mut bytes).remove(&[1]), Err(Refusal::NotSound));
+    assert_eq!(bytes, [170; LEN]);
+}
+
+#[test]
+fn batches() {
+    let mut bytes = p();
+    let mut pool = Pool::new(&mut bytes);
+    let r = Reference { place: 300, size: 20 };
+    assert_eq!(pool.set(&[5, 6, 6], r), Ok(counts(1, 2, 0, 0)));
+    assert_eq!(pool.remove(&[6, 7]), Ok(counts(0, 0, 1, 1)));
+    assert_eq!(pool.compare(&[4, 5], Expectation::Holds(r), Action::Set(entry(5).reference())), Ok(counts(0, 1, 0, 1)));
+    assert_eq!(pool.compare(&[5, 6], Expectation::Absent, Action::Set(r)), Ok(counts(1, 0, 0, 1)));
+    assert_eq!(pool.compare(&[6], Expectation::Holds(r), Action::Remove), Ok(counts(0, 0, 1, 0)));
+    for none in [
+        Operation::Set(r),
+        Operation::SetEach { places: &[], sizes: &[] },
+        Operation::Remove,
+        Operation::Compare(Expectation::Absent, Action::Remove),
+    ] {
+        assert_eq!(pool.batch(&[], none), Ok(counts(0, 0, 0, 0)));
+    }
+    assert_eq!(bytes, p());
+}
+
+#[test]
+fn batches_are_refused() {
+    let mut bytes = p();
+    let mut pool = Pool::new(&mut bytes);
+    let r = Reference::default();
+    assert_eq!(pool.set(&[1, 2, 3, 4, 5], r), Err(Refusal::BatchTooLong));
+    assert_eq!(pool.set_each(&[1, 2], &[1], &[1, 2]), Err(Refusal::ReferencesDiffer));
+    assert_eq!(pool.set_each(&[1, 2], &[1, 2], &[1]), Err(Refusal::ReferencesDiffer));
+    assert_eq!(pool.remove(&[2, 1]), Err(Refusal::KeysDescend));
+    assert_eq!(bytes, p());
+
+    let mut small = [0; pool_len(8, 4)];
+    let mut pool = Pool::open(&mut small, Settings { nodes: 8, ..DESK }).expect("opened");
+    assert_eq!(pool.set(&[1, 2], r), Err(Refusal::TooFewNodes));
+    assert_eq!(pool.set(&[1], r), Ok(counts(1, 0, 0, 0)));
+}
+
+#[test]
+fn totals_and_dead_entries() {
+    let mut bytes = p();
+    assert_eq!(View::new(&bytes).totals(), Ok(Totals { live: 5, dead: 0, size: 80 }));
+    Pool::new(&mut bytes).set(&[2], Reference { place: 0, size: 5 }).expect("done");
+    assert_eq!(View::new(&bytes).totals(), Ok(Totals { live: 4, dead: 1, size: 69 }));
+    let mut out = [0; ENTRY_LEN];
+    let got = View::new(&bytes).get(&[2], &mut out).expect("got");
+    assert_eq!(got.entries.map(|e| (e, e.is_live())).collect::<Vec<_>>(), [(Entry { key: 2, place: 0, size: 5 }, false)]);
+    assert_eq!(seen(&bytes, .., Direction::Up, Sift::All, 9).0, [1, 3, 4, 5]);
+}
+
+#[test]
+fn gets() {
+    let bytes = p();
+    let mut out = [7; 3 * ENTRY_LEN];
+    let got = View::new(&bytes).get(&[2, 2, 9], &mut out).expect("got");
+    assert_eq!((got.entries.len(), got.more), (2, false));
+    assert!(got.entries.eq([entry(2), entry(2)]));
+    assert_eq!(out[2 * ENTRY_LEN..], [7; ENTRY_LEN]);
+    assert_eq!(View::new(&bytes).get(&[2, 1], &mut out).err(), Some(Refusal::KeysDescend));
+    let full = View::new(&bytes).get(&[1, 2], &mut out[..2 * ENTRY_LEN - 1]).expect("got");
+    assert!(full.more && full.entries.eq([entry(1)]));
+}
+
+#[test]
+fn scans() {
+    let p = p();
+    let (up, down) = (Direction::Up, Direction::Down);
+    assert_eq!(seen(&p, (Excluded(3), Included(5)), up, Sift::All, 9), (vec![4, 5], false, 2));
+    assert_eq!(seen(&p, (Excluded(3), Included(5)), down, Sift::All, 9), (vec![5, 4], false, 2));
+    assert_eq!(seen(&p, 1..=2, up, Sift::All, 9), (vec![1, 2], false, 2));
+    assert_eq!(seen(&p, 1..3, down, Sift::All, 9), (vec![2, 1], false, 3));
+    assert_eq!(seen(&p, 4.., up, Sift::All, 9).0, [4, 5]);
+    assert_eq!(seen(&p, (Unbounded, Excluded(1)), up, Sift::All, 9).0, []);
+    assert_eq!(seen(&p, (Included(5), Included(1)), up, Sift::All, 9), (vec![], false, 1));
+    assert_eq!(seen(&p, .., up, Sift::SizeAtLeast(17), 9).0, []);
+    assert_eq!(seen(&p, .., up, Sift::SizeAtLeast(16), 9).0, [1, 2, 3, 4, 5]);
+    assert_eq!(seen(&p, .., up, Sift::All, 0), (vec![], true, 2));
+}
+
+#[test]
+fn entries_from_both_ends() {
+    let bytes = p();
+    let mut out = [0; 9 * ENTRY_LEN];
+    let mut entries = View::new(&bytes).scan(.., Direction::Up, Sift::All, &mut out).expect("scanned").entries;
+    assert_eq!((entries.next(), entries.next_back(), entries.len()), (Some(entry(1)), Some(entry(5)), 3));
+    assert_eq!((entries.nth(1), entries.next(), entries.next(), entries.next_back()), (Some(entry(3)), Some(entry(4)), None, None));
+}
+
+#[test]
+fn frames() {
+    let bytes = p();
+    let mut line = [b'~'; LINE_LEN];
+    let leaf = "0100000000000000040000000000000104000000100000000000000005000000000000010500000010";
+    assert_eq!(View::new(&bytes).frame(2, &mut line), Ok(leaf.as_bytes()));
+    assert_eq!(line[leaf.len()..], [b'~'; LINE_LEN][leaf.len()..]);
+    assert_eq!(View::new(&bytes).frame(3, &mut line), Err(Refusal::NoNode));
+    assert_eq!(View::new(&bytes).frame(2, &mut line[..81]), Err(Refusal::LineTooShort));
+    let Ok(Frame::Leaf(rows)) = Frame::read(leaf.as_bytes()) else { panic!("a leaf") };
+    assert_eq!(*rows, [entry(4), entry(5)]);
+
+    let root = View::new(&bytes).frame(0, &mut line).expect("written").to_vec();
+    let frame = Frame::read(&root).expect("read");
+    let Frame::Interior(rows) = frame else { panic!("an interior") };
+    let branch = |key, child, live| Branch { key, child, live, dead: 0, size: 16 * u64::from(live) };
+    assert_eq!(*rows, [branch(3, 1, 3), branch(5, 2, 2)]);
+    assert_eq!(frame.write(&mut line), Ok(&root[..]));
+}
+
+#[test]
+fn frames_are_refused() {
+    let read = |line: &str| Frame::read(line.as_bytes()).map(|_| ()).unwrap_err();
+    let leaf = "0100000000000000040000000000000104000000100000000000000005000000000000010500000010";
+    assert_eq!(read(""), Refusal::LineEmpty);
+    assert_eq!((read("011"), read("0G")), (Refusal::LineNotHex, Refusal::LineNotHex));
+    assert_eq!(read(&format!("{leaf}00000000")), Refusal::LineNotWhole);
+    assert_eq!(read(&format!("{leaf}{}", &leaf[2..])), Refusal::KeysNotAscending);
+    assert_eq!(read("02"), Refusal::UnknownHeader);
+    let mut line = [b'~'; LINE_LEN];
+    let entries: Vec<Entry> = (0..33).map(entry).collect();
+    assert_eq!(write_leaf(&entries, &mut line), Err(Refusal::TooManyEntries));
+    assert_eq!(write_leaf(&[entry(2), entry(2)], &mut line), Err(Refusal::KeysNotAscending));
+    assert_eq!(write_interior(&[Branch::default()], &mut line[..57]), Err(Refusal::LineTooShort));
+    assert_eq!(line, [b'~'; LINE_LEN]);
+    let longest: Vec<Branch> = (0..FRAME_ENTRIES as u64).map(|key| Branch { key, ..Branch::default() }).collect();
+    assert_eq!(write_interior(&longest, &mut line).map(<[u8]>::len), Ok(LINE_LEN));
+    assert_eq!(read(&format!("01{}", "0".repeat(40 * 33))), Refusal::TooManyEntries);
+}
+
+#[test]
+fn numbers() {
+    assert_eq!(Refusal::from_number(0), None);
+    for n in 1..=20 {
+        let refusal = Refusal::from_number(n).expect("a refusal");
+        assert_eq!((refusal.number(), u32::from(refusal)), (n, n));
+        assert_eq!(matches!(refusal, Refusal::Other(_)), n > 16);
+        assert!(refusal.to_string().starts_with(&format!("refused as {n}: ")));
+    }
+    let error: &dyn std::error::Error = &Refusal::TooDeep;
+    assert_eq!(error.to_string(), "refused as 6: the tree has depth 8, and the batch is no Remove");
+}
+
+/// What the typed calls are built on leaves its small buffers as they were where it is refused.
+#[test]
+fn the_raw_calls() {
+    let bytes = p();
+    let (mut totals, mut told, mut len) = ([7; 3], [7; 2], 7);
+    assert_eq!((raw::totals(&bytes[1..], &mut totals), totals), (2, [7; 3]));
+    assert_eq!((raw::get(&bytes, &[2, 1], &mut [], &mut told), told), (5, [7; 2]));
+    assert_eq!((raw::frame(&bytes, 3, &mut [], &mut len), len), (14, 7));
+    assert_eq!((raw::totals(&bytes, &mut totals), totals), (0, [5, 0, 80]));
+}
