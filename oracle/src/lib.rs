@@ -13,6 +13,7 @@ pub mod shrink;
 pub mod stand_in;
 pub mod tally;
 pub mod trees;
+pub mod typed;
 pub mod variants;
 pub mod walk;
 

@@ -109,7 +109,7 @@ pub fn search(r: &mut Random, tries: usize, run: Run, bad: Bad) -> (usize, Optio
             count += 1;
             if count <= 25 {
                 let calls = shrink(run, bad, &st, calls);
-                if best.as_ref().map_or(true, |b| size(&calls) < size(&b.1)) {
+                if best.as_ref().is_none_or(|b| size(&calls) < size(&b.1)) {
                     best = Some((st, calls));
                 }
             }

@@ -40,7 +40,7 @@ fn lists(keys: &[u64], n: usize) -> Vec<Vec<u64>> {
     let shorter = lists(keys, n - 1);
     shorter
         .iter()
-        .flat_map(|l| keys.iter().filter(|&&k| l.last().map_or(true, |&last| last < k)).map(|&k| l.iter().copied().chain([k]).collect()))
+        .flat_map(|l| keys.iter().filter(|&&k| l.last().is_none_or(|&last| last < k)).map(|&k| l.iter().copied().chain([k]).collect()))
         .collect()
 }
 

@@ -5,7 +5,7 @@ use plain::{Entry, Settings};
 
 /// Every third entry is dead, and sizes differ.
 pub fn entry_for(key: u64) -> Entry {
-    Entry { key, place: if key % 3 == 0 { 0 } else { key.wrapping_add(256).max(1) }, size: (key % 5) as u32 * 8 }
+    Entry { key, place: if key.is_multiple_of(3) { 0 } else { key.wrapping_add(256).max(1) }, size: (key % 5) as u32 * 8 }
 }
 
 /// All ways to cut a list into parts of 1 to `most`.

@@ -68,7 +68,7 @@ impl Work<'_> {
                     give_keys(&mut root, &mut 0);
                     let ks = leaf_keys(&root, at);
                     let nodes = (root.nodes() + plain::refuse::needed(order, h) + self.random.below(3)).clamp(8, 16_384);
-                    self.from_here(Settings { nodes, order, minimum }, root, &ks)?;
+                    self.batches_about(Settings { nodes, order, minimum }, root, &ks)?;
                 }
             }
         }
@@ -76,7 +76,7 @@ impl Work<'_> {
     }
 
     /// Short batches about some keys, each followed by random calls.
-    fn from_here(&mut self, st: Settings, root: Node, ks: &[u64]) -> Result<(), Found> {
+    fn batches_about(&mut self, st: Settings, root: Node, ks: &[u64]) -> Result<(), Found> {
         let x = trees::placed(root, st.nodes, Some(&mut self.random));
         let (low, high) = (ks[0], ks[ks.len() - 1]);
         let calls = [

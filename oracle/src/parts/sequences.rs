@@ -13,7 +13,7 @@ pub(super) fn batches(keys: &[u64], most: usize) -> Vec<Vec<u64>> {
     for _ in 0..most {
         last = last
             .iter()
-            .flat_map(|b| keys.iter().filter(|k| b.last().map_or(true, |l| l <= k)).map(|&k| b.iter().copied().chain([k]).collect()))
+            .flat_map(|b| keys.iter().filter(|k| b.last().is_none_or(|l| l <= k)).map(|&k| b.iter().copied().chain([k]).collect()))
             .collect();
         out.extend(last.iter().cloned());
     }

@@ -1,0 +1,104 @@
+//! The linked library by the typed calls of the crate alarm-index: what they tell is written down as the C functions would, where they were
+//! not refused. Built where an archive is linked.
+#![cfg(linked)]
+use crate::alarm::range_end;
+use crate::library::{Library, RawFrame};
+use alarm_index::{write_interior, write_leaf, Action, Branch, Counts, Direction, Entry, Expectation, Frame, Operation, Pool};
+use alarm_index::{Reference, Refusal, Settings, Sift, View};
+use plain::Request;
+
+pub struct Typed;
+
+fn tell<T, N>(answer: Result<T, Refusal>, told: &mut N, numbers: impl FnOnce(T) -> N) -> u32 {
+    match answer {
+        Ok(answer) => {
+            *told = numbers(answer);
+            0
+        }
+        Err(refusal) => refusal.number(),
+    }
+}
+
+fn reference((place, size): (u64, u32)) -> Reference {
+    Reference { place, size }
+}
+
+fn counted(answer: Result<Counts, Refusal>, counts: &mut [u64; 4]) -> u32 {
+    tell(answer, counts, |c| [c.added, c.replaced, c.removed, c.nothing])
+}
+
+fn fields(frame: &Frame) -> RawFrame {
+    let mut f = RawFrame::zero();
+    match frame {
+        Frame::Leaf(rows) => {
+            f.head = [1, rows.len() as u64];
+            for (i, e) in rows.iter().enumerate() {
+                (f.keys[i], f.wide[i], f.narrow[i]) = (e.key, e.place, e.size);
+            }
+        }
+        Frame::Interior(rows) => {
+            f.head = [0, rows.len() as u64];
+            for (i, b) in rows.iter().enumerate() {
+                (f.keys[i], f.wide[i], f.narrow[i], f.live[i], f.dead[i]) = (b.key, b.size, b.child, b.live, b.dead);
+            }
+        }
+    }
+    f
+}
+
+/// The first `count` rows of 32, and so many more that there are `count`.
+fn rows<T: Copy>(count: u64, row: impl Fn(usize) -> T) -> Vec<T> {
+    (0..count.min(33) as usize).map(|i| row(i.min(31))).collect()
+}
+
+impl Library for Typed {
+    fn name(&self) -> String {
+        "the linked library, by typed calls".to_string()
+    }
+    fn pool_len(&self, nodes: u64, order: u64, minimum: u64) -> u64 {
+        Settings { nodes, order, minimum }.pool_len().unwrap_or(0) as u64
+    }
+    fn open(&self, pool: &mut [u8], nodes: u64, order: u64, minimum: u64) -> u32 {
+        tell(Pool::open(pool, Settings { nodes, order, minimum }), &mut (), |_| ())
+    }
+    fn totals(&self, pool: &[u8], totals: &mut [u64; 3]) -> u32 {
+        tell(View::new(pool).totals(), totals, |t| [t.live, t.dead, t.size])
+    }
+    fn set(&self, pool: &mut [u8], keys: &[u64], place: u64, size: u32, counts: &mut [u64; 4]) -> u32 {
+        counted(Pool::new(pool).set(keys, reference((place, size))), counts)
+    }
+    fn set_each(&self, pool: &mut [u8], keys: &[u64], places: &[u64], sizes: &[u32], counts: &mut [u64; 4]) -> u32 {
+        counted(Pool::new(pool).set_each(keys, places, sizes), counts)
+    }
+    fn remove(&self, pool: &mut [u8], keys: &[u64], counts: &mut [u64; 4]) -> u32 {
+        counted(Pool::new(pool).remove(keys), counts)
+    }
+    fn compare(&self, pool: &mut [u8], keys: &[u64], expected: Option<(u64, u32)>, action: Option<(u64, u32)>, counts: &mut [u64; 4]) -> u32 {
+        let expectation = expected.map_or(Expectation::Absent, |r| Expectation::Holds(reference(r)));
+        let action = action.map_or(Action::Remove, |r| Action::Set(reference(r)));
+        counted(Pool::new(pool).batch(keys, Operation::Compare(expectation, action)), counts)
+    }
+    fn get(&self, pool: &[u8], keys: &[u64], out: &mut [u8], told: &mut [u64; 2]) -> u32 {
+        tell(View::new(pool).get(keys, out), told, |g| [g.entries.len() as u64, g.more.into()])
+    }
+    fn scan(&self, pool: &[u8], q: &Request, out: &mut [u8], told: &mut [u64; 3]) -> u32 {
+        let direction = if q.down { Direction::Down } else { Direction::Up };
+        let sift = if q.least == 0 { Sift::All } else { Sift::SizeAtLeast(q.least) };
+        let answer = View::new(pool).scan((range_end(q.start), range_end(q.end)), direction, sift, out);
+        tell(answer, told, |s| [s.entries.len() as u64, s.more.into(), s.opened])
+    }
+    fn frame(&self, pool: &[u8], i: u64, line: &mut [u8], len: &mut u64) -> u32 {
+        tell(View::new(pool).frame(i, line), len, |l| l.len() as u64)
+    }
+    fn read_frame(&self, line: &[u8], frame: &mut RawFrame) -> u32 {
+        tell(Frame::read(line), frame, |f| fields(&f))
+    }
+    fn write_leaf(&self, count: u64, keys: &[u64; 32], places: &[u64; 32], sizes: &[u32; 32], line: &mut [u8], len: &mut u64) -> u32 {
+        let entries = rows(count, |i| Entry { key: keys[i], place: places[i], size: sizes[i] });
+        tell(write_leaf(&entries, line), len, |l| l.len() as u64)
+    }
+    fn write_interior(&self, count: u64, f: &RawFrame, line: &mut [u8], len: &mut u64) -> u32 {
+        let branches = rows(count, |i| Branch { key: f.keys[i], child: f.narrow[i], live: f.live[i], dead: f.dead[i], size: f.wide[i] });
+        tell(write_interior(&branches, line), len, |l| l.len() as u64)
+    }
+}
