@@ -20,9 +20,9 @@ use Rattle.model.specs.Plain.{Task}
 use Rattle.model.specs.Share.{Place}
 use Rattle.model.specs.Change.{Result, Outcome, Spot, seek, ceilingFor, resultOf, change, settle, isChange}
 use Rattle.model.specs.Sound.{InLimits}
+use Rattle.model.specs.Contracts.{flat, joined, back, Says, takes}
 use Rattle.model.proofs.Lists.{both-left, both-right, all-head}
-use Rattle.model.proofs.Trees.{flat, flat-three, flat-joined, joined, back, back-joined}
-use Rattle.model.proofs.Settles.{Says, takes}
+use Rattle.model.proofs.Trees.{flat-three, flat-joined, back-joined}
 use Rattle.leaf.specs.Deeds.{refOf}
 use Rattle.leaf.specs.Keys.{taskOf}
 use Rattle.leaf.specs.Leaf.{Batch, tasksOf}

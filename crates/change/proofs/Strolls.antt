@@ -13,8 +13,9 @@ use Rattle.model.specs.Tree.{Item, Tree, slots}
 use Rattle.model.specs.Plain.{Task}
 use Rattle.model.specs.Share.{Place}
 use Rattle.model.specs.Change.{Result, Outcome}
+use Rattle.model.specs.Contracts.{joined, back}
 use Rattle.model.proofs.Lists.{all-append, all-left, all-right, all-head, all-tail, hit-same, times-append}
-use Rattle.model.proofs.Trees.{joined, back, back-joined, slotsIn, own, own-turned, slots-joined}
+use Rattle.model.proofs.Trees.{back-joined, slotsIn, own, own-turned, slots-joined}
 use Rattle.tree.specs.Bridge.{cells, cellsOf, Stands, Holds, unusedOf, Blank, Apart, Frame}
 use Rattle.tree.proofs.Cells.{used-tree, agree-items, turned-cells, cells-rest, cells-before, slots-turned}
 use Rattle.tree.proofs.Unused.{used-none, unused-once}

@@ -16,11 +16,12 @@ use Rattle.model.specs.Plain.{Task}
 use Rattle.model.specs.Share.{Place}
 use Rattle.model.specs.Change.{Result, isChange, resultOf, Run, Walked, Outcome, Spot, seek, ceilingFor, settle, walk, change}
 use Rattle.model.specs.Sound.{InLimits, Stocked, Fits}
+use Rattle.model.specs.Contracts.{flat, joined, back, Says, takes, Rising, Grants, Given, Enough}
 use Rattle.model.proofs.Lists.{all-left, all-right, all-head}
-use Rattle.model.proofs.Plain.{Grants, list-long, list-all}
-use Rattle.model.proofs.Trees.{flat, flat-three, flat-joined, joined, back}
-use Rattle.model.proofs.Settles.{Says, takes, itemsOf, settles}
-use Rattle.model.proofs.Changes.{Rising, Enough, child-enough, Given, Owes, Ranged, Passed, Sought, Turned, did-left, stocked-ready, ceiling-due, one-left, outcome, chosen-law, chosen-given, owing, turning, first-ranged, none-passed, change-law}
+use Rattle.model.proofs.Plain.{list-long, list-all}
+use Rattle.model.proofs.Trees.{flat-three, flat-joined}
+use Rattle.model.proofs.Settles.{itemsOf, settles}
+use Rattle.model.proofs.Changes.{child-enough, Owes, Ranged, Passed, Sought, Turned, did-left, stocked-ready, ceiling-due, one-left, outcome, chosen-law, chosen-given, owing, turning, first-ranged, none-passed, change-law}
 use Rattle.tree.specs.Bridge.{Holds, unusedOf, Apart}
 use Rattle.settle.specs.Settle.{Low, inner, Loose, Settled}
 use Rattle.change.specs.Calls.{runOf, Asked, Answers}

@@ -13,9 +13,7 @@ use Rattle.model.specs.Tree.{Tree, slots}
 use Rattle.model.specs.Plain.{Task}
 use Rattle.model.specs.Change.{Result, Run, Outcome, change}
 use Rattle.model.specs.Sound.{Fits}
-use Rattle.model.proofs.Plain.{Grants}
-use Rattle.model.proofs.Trees.{flat}
-use Rattle.model.proofs.Changes.{Given, Due, Ready, Enough}
+use Rattle.model.specs.Contracts.{flat, Due, Grants, Given, Ready, Enough}
 use Rattle.leaf.specs.Leaf.{Batch, tasksOf}
 use Rattle.tree.specs.Bridge.{treeAt, unusedOf, Holds, Blank, Apart, Frame}
 use Rattle.settle.specs.Settle.{resultIs, Low}

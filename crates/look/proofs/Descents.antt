@@ -28,9 +28,10 @@ use Rattle.model.specs.Tree.{Item, Tree, entries, greatestKey}
 use Rattle.model.specs.Plain.{from, first, held}
 use Rattle.model.specs.Look.{present, found}
 use Rattle.model.specs.Sound.{Whole, Sorted}
+use Rattle.model.specs.Contracts.{flat}
 use Rattle.model.proofs.Lists.{all-head, all-map, all-at, ordered-left, ordered-right}
 use Rattle.model.proofs.Plain.{Under, Over, from-front, from-back, first-back}
-use Rattle.model.proofs.Trees.{flat, flat-zero, separator-ends, ends-over, ends-under}
+use Rattle.model.proofs.Trees.{flat-zero, separator-ends, ends-over, ends-under}
 use Rattle.model.proofs.Readable.{separator-keys}
 use Rattle.tree.specs.Bridge.{rowFor, entryOf, childOf, Holds, treeAt}
 use Rattle.tree.proofs.Keys.{rows-ascend, entries-from}

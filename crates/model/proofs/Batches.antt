@@ -17,11 +17,12 @@ use Rattle.model.specs.Share.{half}
 use Rattle.model.specs.Change.{Result, Unchanged, Remove, Split, Absorb, Changed, isChange, Run, Outcome, change, noCeiling, splitRoot, settleRoot, Batched, changeRoot, collapse, batch}
 use Rattle.model.specs.Refuse.{needed}
 use Rattle.model.specs.Sound.{InLimits, Stocked, Whole, Rooted, Sorted, Ascending}
+use Rattle.model.specs.Contracts.{flat, OverFull, Says, Rising, Removing, Given, Ready, Enough}
 use Rattle.model.proofs.Lists.{all-left, all-right, all-head, times-append}
 use Rattle.model.proofs.Plain.{list-sorted}
-use Rattle.model.proofs.Trees.{flat, flat-append, slotsIn, slots-append}
-use Rattle.model.proofs.Settles.{OverFull, Says, times-release, length-others, others-up, release-up}
-use Rattle.model.proofs.Changes.{Rising, Removing, Did, did-none, did-then, did-left, did-rising, Ready, stocked-ready, Enough, Owes, Given, change-law, interior-strolled}
+use Rattle.model.proofs.Trees.{flat-append, slotsIn, slots-append}
+use Rattle.model.proofs.Settles.{times-release, length-others, others-up, release-up}
+use Rattle.model.proofs.Changes.{Did, did-none, did-then, did-left, did-rising, stocked-ready, Owes, change-law, interior-strolled}
 
 -- THE ROOT'S RESULT
 

@@ -21,9 +21,8 @@ use Rattle.model.specs.Change.{noCeiling}
 use Rattle.model.specs.Refuse.{Call, tasksOf, isRemove, isEach, descend, needed, refusal}
 use Rattle.model.specs.Sound.{InLimits, Sound, Fits, Ascending, Once}
 use Rattle.model.specs.Demands.{ReferenceFits, ActionFits, OperationFits, Lent}
+use Rattle.model.specs.Contracts.{Rising, Removing, Grants}
 use Rattle.model.proofs.Lists.{by-test, both-left, both-right, or-left, or-right, all-map, hit-same, hit-other}
-use Rattle.model.proofs.Plain.{Grants}
-use Rattle.model.proofs.Changes.{Rising, Removing}
 use Rattle.model.proofs.Batches.{Room, Headroom}
 
 -- WHAT NO REFUSAL SAYS

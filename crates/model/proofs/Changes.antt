@@ -13,32 +13,19 @@ use borrow.Author.Tests.{le-leb, le-ltb, ltb-true, ltb-false, leb-true, leb-fals
 use Rattle.model.specs.declared.Entry.{Entry}
 use Rattle.model.specs.declared.Counts.{Counts}
 use Rattle.model.specs.declared.Settings.{Settings}
-use Rattle.model.specs.declared.Action.the-variants as Do
-use Rattle.model.specs.Lists.{hit, times, All, none, one, Ordered, cons}
+use Rattle.model.specs.Lists.{hit, times, All, none, one, cons}
 use Rattle.model.specs.Tree.{Node, Item, Tree, len, refill, slots, greatestKey}
-use Rattle.model.specs.Plain.{Task, always, step, effectOn, count, alters, plainList, plainCounts}
+use Rattle.model.specs.Plain.{Task, step, effectOn, count, alters, plainList, plainCounts}
 use Rattle.model.specs.Share.{Place}
 use Rattle.model.specs.Change.{Result, Remove, Split, isChange, Run, Walked, Outcome, counted, takeTasks, changeLeaf, Spot, seek, ceilingFor, settle, walk, changeInterior, change}
 use Rattle.model.specs.Sound.{InLimits, Stocked, Whole, Sorted, Ascending}
+use Rattle.model.specs.Contracts.{flat, joined, back, OverFull, Says, takes, Rising, Removing, Due, Given, Ready, Enough}
 use Rattle.model.proofs.Lists.{by-test, both-left, both-right, or-left, or-right, all-append, all-left, all-right, all-map, all-both, all-turned, all-head, all-tail, all-drop, ordered-left, ordered-right}
 use Rattle.model.proofs.Plain.{Under, Over, Fit, list-inside, counts-inside, list-append, counts-append, list-sorted, step-idle, step-long, step-shrinks}
-use Rattle.model.proofs.Trees.{flat, flat-append, flat-joined, flat-zero, flat-three, joined, back, back-joined, separator-ends, ends-over, ends-under, slotsIn, own, own-turned, slots-three, slots-joined, slots-leaf}
-use Rattle.model.proofs.Settles.{OverFull, Says, takes, takes-none, takes-one, itemsOf, many, Standing, Settles, settles, settle-idle, result-says, result-idle}
+use Rattle.model.proofs.Trees.{flat-append, flat-joined, flat-zero, flat-three, back-joined, separator-ends, ends-over, ends-under, slotsIn, own, own-turned, slots-three, slots-joined, slots-leaf}
+use Rattle.model.proofs.Settles.{takes-none, takes-one, itemsOf, many, Standing, Settles, settles, settle-idle, result-says, result-idle}
 
 -- TASKS
-
--- keys ascend, equal neighbours allowed
-abbrev pub Rising : List Task → Type 0
-Rising ts = Ordered (λ t u. t .key ≤ u .key) ts
-
--- all tasks are plain removals
-abbrev pub Removing : List Task → Type 0
-Removing ts = All (λ t. t .wish ≡ always Do.Remove) ts
-
--- the next task is for this ceiling
-abbrev pub Due : ℕ → List Task → Type 0
-Due ceiling [] = ⊥
-Due ceiling (t ∷ ts) = t .key ≤ ceiling
 
 -- of the tasks ts, all but `left` were taken, and turned the list old into new and the counts c into d
 pub record Did (ceiling : ℕ) (ts left : List Task) (old new : List Entry) (c d : Counts) : Type 0 where
@@ -79,18 +66,9 @@ did-rising {left = left} r h = ordered-right (r .taken) left (rw (r .split) at h
 
 -- WHAT A CHANGED NODE OWES
 
--- a lone leaf has at most order entries, an interior has 1 to order children
-abbrev pub Ready : Settings → (h : ℕ) → Tree h → Type 0
-Ready st zero n = len n ≤ st .order
-Ready st (suc h) n = Stocked st n
-
 pub stocked-ready : (st : Settings) (h : ℕ) (n : Tree h) → Stocked st n → Ready st h n
 stocked-ready st zero n g = g .few
 stocked-ready st (suc h) n g = g
-
--- there are unused slots enough: one a level for each task, or the tasks are removals
-abbrev pub Enough : ℕ → List Task → List ℕ → Type 0
-Enough h ts unused = (length ts * h ≤ length unused) ⊎ Removing ts
 
 -- enough for a node is enough for its children
 pub child-enough : (h : ℕ) (ts : List Task) (unused : List ℕ) → Enough (suc h) ts unused → Enough h ts unused
@@ -112,14 +90,6 @@ pub record Owes (st : Settings) (h ceiling : ℕ) (n : Tree h) (ts : List Task) 
   pub shrinks : Removing ts → len (o .node) ≤ len n
   pub grows : Removing ts → (s : ℕ) → times s (run .unused) ≤ times s (o .run .unused)
   pub up : Ascending (run .unused) → Ascending (o .run .unused)
-
--- a node of the tree, and tasks that may come to it
-pub record Given (st : Settings) (h : ℕ) (n : Tree h) (ts : List Task) : Type 0 where
-  pub whole : All (Whole st h) (n .items)
-  pub few : len n ≤ st .order
-  pub sorted : Sorted (flat h (n .items))
-  pub rising : Rising ts
-  pub short : length ts ≤ st .order
 
 -- of a function that changes nodes of a level
 abbrev pub Lawful : Settings → (h : ℕ) → (ℕ → Tree h → List Task → Run → Outcome (Tree h)) → Type 0
@@ -590,11 +560,15 @@ module _ (st : Settings) (h : ℕ) where
 
 -- A NODE OF ANY LEVEL
 
-whole-joined : (st : Settings) (h : ℕ) {ns : List (Node (Item h))} → All (Whole st (suc h)) ns → All (Whole st h) (joined ns)
+pub whole-joined : (st : Settings) (h : ℕ) {ns : List (Node (Item h))} → All (Whole st (suc h)) ns → All (Whole st h) (joined ns)
 whole-joined st h none = none
 whole-joined st h (one g gs) = all-append (g .1) (whole-joined st h gs)
 
-joined-whole : (st : Settings) (h : ℕ) (ns : List (Node (Item h))) → All (Stocked st) ns → All (Whole st h) (joined ns) → All (Whole st (suc h)) ns
+pub whole-back : (st : Settings) (h : ℕ) {ns : List (Node (Item h))} → All (Whole st (suc h)) ns → All (Whole st h) (back ns)
+whole-back st h none = none
+whole-back st h (one g gs) = all-append (whole-back st h gs) (g .1)
+
+pub joined-whole : (st : Settings) (h : ℕ) (ns : List (Node (Item h))) → All (Stocked st) ns → All (Whole st h) (joined ns) → All (Whole st (suc h)) ns
 joined-whole st h [] none w = none
 joined-whole st h (n ∷ ns) (one g gs) w = one (g, all-left (n .items) (joined ns) w) (joined-whole st h ns gs (all-right (n .items) (joined ns) w))
 

@@ -15,10 +15,10 @@ use Rattle.model.specs.Look.{listing, found, dueIn}
 use Rattle.model.specs.Refuse.{Call, tasksOf, refusal, indexAfter}
 use Rattle.model.specs.Sound.{Rooted, Sound}
 use Rattle.model.specs.Demands.{Lent, Batches, OneBatch, RemoveTakesNone, runAll, plainAfter, plainAll, AnswersFrom, Demand3, Swap, Demands}
+use Rattle.model.specs.Contracts.{Ready}
 use Rattle.model.proofs.Lists.{all-map, all-swap}
 use Rattle.model.proofs.Plain.{list-sorted, list-all, Differs, list-swap, counts-swap}
 use Rattle.model.proofs.Trees.{total-list}
-use Rattle.model.proofs.Changes.{Ready}
 use Rattle.model.proofs.Batches.{Fine, BatchOwes, batch-law}
 use Rattle.model.proofs.Calls.{Passes, passes, removing, all-keys, new-sound}
 use Rattle.model.proofs.Scans.{openings-law}

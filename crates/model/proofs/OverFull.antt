@@ -12,8 +12,9 @@ use Rattle.model.specs.Tree.{Node, len, lowest}
 use Rattle.model.specs.Share.{Two, Row, halved, fits, full, shareBack, shareOn, splitOver, shareNext, shareOut}
 use Rattle.model.specs.Sound.{InLimits}
 use Rattle.model.specs.Demands.{SharedOut, OverFullChild}
+use Rattle.model.specs.Contracts.{joined, back}
 use Rattle.model.proofs.Lists.{by-test, all-append}
-use Rattle.model.proofs.Trees.{joined, joined-append, back, back-joined}
+use Rattle.model.proofs.Trees.{joined-append, back-joined}
 use Rattle.model.proofs.Settles.{halves-same, on-same, back-same}
 
 module _ (st : Settings) (lim : InLimits st) {X : Type 0} where

@@ -19,6 +19,7 @@ use Rattle.model.specs.declared.Action.the-variants as Do
 use Rattle.model.specs.Lists.{All, none, one, nil, cons}
 use Rattle.model.specs.Plain.{Wish, always, ifMet, alters, Effect, leave, add, replace, remove, Task, step, below, from, first, above, held, under, act, met, effect, effectOn, plainList, plainCounts, count, referenceOf, entryFor}
 use Rattle.model.specs.Sound.{Sorted}
+use Rattle.model.specs.Contracts.{Puts, Grants}
 use Rattle.model.proofs.Lists.{by-test, all-append, all-map, ordered-append, ordered-left, ordered-right}
 
 abbrev pub Under : ℕ → List Entry → Type 0
@@ -200,26 +201,14 @@ module _ (P : Entry → Type 0) where
       by-test (Kept k) (eqb (e .key) k)
       (λ q. let p : P (entryFor (e .key) (referenceOf e)) = g in rw (eqb-true (e .key) k q) at p) (λ q. tt)
 
-  -- what an action would put under k
-  abbrev pub Puts : ℕ → Action → Type 0
-  Puts k (Do.Set r) = P (entryFor k r)
-  Puts k Do.Remove = Unit {0}
-
-  abbrev pub Grants : Task → Type 0
-  Grants t = grants (t .key) (t .wish)
-    where
-      grants : ℕ → Wish → Type 0
-      grants k (always a) = Puts k a
-      grants k (ifMet e a) = Puts k a
-
-  pub granted : (t : Task) → ((r : Reference) → P (entryFor (t .key) r)) → Grants t
+  pub granted : (t : Task) → ((r : Reference) → P (entryFor (t .key) r)) → Grants P t
   granted t f = go (t .wish)
     where
-      puts : (a : Action) → Puts (t .key) a
+      puts : (a : Action) → Puts P (t .key) a
       puts (Do.Set r) = f r
       puts Do.Remove = tt
 
-      go : (w : Wish) → Grants (record { key = t .key; wish = w })
+      go : (w : Wish) → Grants P (record { key = t .key; wish = w })
       go (always a) = puts a
       go (ifMet e a) = puts a
 
@@ -229,13 +218,13 @@ module _ (P : Entry → Type 0) where
   Made k (replace r) = P (entryFor k r)
   Made k remove = Unit {0}
 
-  act-made : (k : ℕ) (a : Action) (o : Option Reference) → Puts k a → Made k (act a o)
+  act-made : (k : ℕ) (a : Action) (o : Option Reference) → Puts P k a → Made k (act a o)
   act-made k (Do.Set r) O.none p = p
   act-made k (Do.Set r) (some held) p = p
   act-made k Do.Remove O.none p = tt
   act-made k Do.Remove (some held) p = tt
 
-  effect-made : (k : ℕ) (w : Wish) (o : Option Reference) → Grants (record { key = k; wish = w }) → Made k (effect w o)
+  effect-made : (k : ℕ) (w : Wish) (o : Option Reference) → Grants P (record { key = k; wish = w }) → Made k (effect w o)
   effect-made k (always a) o p = act-made k a o p
   effect-made k (ifMet e a) o p = by-test (Made k) (met e o) (λ q. act-made k a o p) (λ q. tt)
 
@@ -246,13 +235,13 @@ module _ (P : Entry → Type 0) where
   under-all k o (replace r) h m = one m none
   under-all k o remove h m = none
 
-  pub step-all : (t : Task) {es : List Entry} → Grants t → All P es → All P (step t es)
+  pub step-all : (t : Task) {es : List Entry} → Grants P t → All P es → All P (step t es)
   step-all t {es} g h =
       all-append (all-below (t .key) h)
       (all-append (under-all (t .key) (held (t .key) es) (effectOn t es) (first-kept (t .key) (all-from (t .key) h)) (effect-made (t .key) (t .wish) (held (t .key) es) g))
       (all-above (t .key) (all-from (t .key) h)))
 
-  pub list-all : {ts : List Task} {es : List Entry} → All Grants ts → All P es → All P (plainList ts es)
+  pub list-all : {ts : List Task} {es : List Entry} → All (Grants P) ts → All P es → All P (plainList ts es)
   list-all none h = h
   list-all (one {x = t} g gs) h = list-all gs (step-all t g h)
 

@@ -16,8 +16,9 @@ use Rattle.model.specs.Tree.{Item, Tree, len, entries, slots, slotsOf, g
 use Rattle.model.specs.Frame.{Frame, leaf, interior, keysOf, nodesIn, branches, inTurn, framesFrom, rising, entriesRefusal}
 use Rattle.model.specs.Sound.{InLimits, Whole, Sorted, Fits, BranchFits, FrameFits}
 use Rattle.model.specs.Demands.{FramesRead}
+use Rattle.model.specs.Contracts.{flat}
 use Rattle.model.proofs.Lists.{all-append, all-left, all-right, all-map, all-of, all-head, all-tail, ordered-left, ordered-right}
-use Rattle.model.proofs.Trees.{flat, flat-zero, slotsIn, Ends, separator-ends, ends-over, listTotals, total-list, totals-count, sizes-few, root-few, entries-few, once-count}
+use Rattle.model.proofs.Trees.{flat-zero, slotsIn, Ends, separator-ends, ends-over, listTotals, total-list, totals-count, sizes-few, root-few, entries-few, once-count}
 use Rattle.model.proofs.Frames.{read-written}
 
 -- KEYS

@@ -18,8 +18,9 @@ use Rattle.model.specs.Lists.{concat, keep, All, none, one}
 use Rattle.model.specs.Tree.{Node, Item, Tree, entries, greatestKey, total, sumOf, isLive}
 use Rattle.model.specs.Look.{Request, least, starts, ends, turned, figure, due, untilEnd, reached, entered, openings}
 use Rattle.model.specs.Sound.{Whole, Sorted}
+use Rattle.model.specs.Contracts.{flat}
 use Rattle.model.proofs.Lists.{not-both, all-append, all-map, ordered-left, ordered-right, concat-append, keep-append, keep-none, keep-reverse}
-use Rattle.model.proofs.Trees.{flat, flat-zero, separator-ends, ends-over, ends-under}
+use Rattle.model.proofs.Trees.{flat-zero, separator-ends, ends-over, ends-under}
 
 turned-nil : (d : Direction) → _≡_ {A = List Entry} (turned d []) []
 turned-nil Up = refl

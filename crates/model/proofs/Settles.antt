@@ -14,8 +14,9 @@ use Rattle.model.specs.Tree.{Node, len, refill, lowest, others, release}
 use Rattle.model.specs.Share.{Two, Row, Place, followed, stay, half, halved, fits, full, handed, shareBack, shareOn, splitOver, shareNext, shareOut, join, absorb, takeOut}
 use Rattle.model.specs.Change.{Result, Unchanged, Remove, Split, Absorb, Changed, resultOf, isChange, settle}
 use Rattle.model.specs.Sound.{InLimits, Stocked, Ascending}
+use Rattle.model.specs.Contracts.{joined, back, OverFull, Says, takes}
 use Rattle.model.proofs.Lists.{by-test, all-append, all-map}
-use Rattle.model.proofs.Trees.{joined, joined-append, back, own, own-append}
+use Rattle.model.proofs.Trees.{joined-append, own, own-append}
 
 -- UNUSED SLOTS
 
@@ -81,16 +82,11 @@ module _ (st : Settings) {X : Type 0} where
         up = m .up;
       }
 
-  -- over-full: above order, at most twice that
-  pub record OverFull (c : Node X) : Type 0 where
-    pub over : st .order < len c
-    pub twice : len c ≤ 2 * st .order
-
   module _ (lim : InLimits st) where
-    lower-stocked : (c : Node X) (s : ℕ) → OverFull c → Stocked st (halved c s .lower)
+    lower-stocked : (c : Node X) (s : ℕ) → OverFull st c → Stocked st (halved c s .lower)
     lower-stocked c s o = record { some = simp length-take (omega (arith, o .over)); few = simp length-take (omega (arith, o .twice)) }
 
-    upper-stocked : (c : Node X) (s : ℕ) → OverFull c → Stocked st (halved c s .upper)
+    upper-stocked : (c : Node X) (s : ℕ) → OverFull st c → Stocked st (halved c s .upper)
     upper-stocked c s o =
         record { some = simp length-drop (omega (arith, o .over, lim .wide)); few = simp length-drop (omega (arith, o .twice)) }
 
@@ -111,7 +107,7 @@ module _ (st : Settings) {X : Type 0} where
           up = λ a. a;
         })
         (λ e.
-        let o : OverFull c = record { over = leb-false _ _ e; twice = twice } in
+        let o : OverFull st c = record { over = leb-false _ _ e; twice = twice } in
         record {
           same = halves-same c (lowest unused) ∙ sym (append-nil (c .items));
           stocked = one (lower-stocked c (lowest unused) o) (one (upper-stocked c (lowest unused) o) none);
@@ -186,7 +182,7 @@ module _ (st : Settings) {X : Type 0} where
             }
 
     -- with the previous sibling, which takes the first items
-    back-remade : (p c : Node X) {after : List (Node X)} (unused : List ℕ) → Stocked st p → OverFull c → All (Stocked st) after
+    back-remade : (p c : Node X) {after : List (Node X)} (unused : List ℕ) → Stocked st p → OverFull st c → All (Stocked st) after
         → Remade 1 (p ∷ c ∷ after) unused
         (record { nodes = shareBack st p c .lower ∷ shareNext st (shareBack st p c .upper) after unused .nodes; unused = shareNext st (shareBack st p c .upper) after unused .unused })
     back-remade p c {after} unused h o g =
@@ -224,7 +220,7 @@ module _ (st : Settings) {X : Type 0} where
           up = release-up (b .slot);
         })
         (λ e.
-        let o : OverFull both = record { over = leb-false _ _ e; twice = twice } in
+        let o : OverFull st both = record { over = leb-false _ _ e; twice = twice } in
         record {
           same = halves-same both (b .slot) ∙ sym whole;
           stocked = one (lower-stocked both (b .slot) o) (one (upper-stocked both (b .slot) o) none);
@@ -236,13 +232,7 @@ module _ (st : Settings) {X : Type 0} where
           up = λ a. a;
         })
 
--- how many nodes a result may take
-abbrev pub takes : Result → ℕ
-takes Unchanged = 0
-takes Changed = 0
-takes Absorb = 0
-takes Split = 1
-takes Remove = 0
+-- HOW MANY NODES a result may take
 
 pub takes-none : (r : Result) → (r ≡ Split → ⊥) → takes r ≡ 0
 takes-none Unchanged h = refl
@@ -336,14 +326,6 @@ module _ (st : Settings) {X : Type 0} where
         up = λ a. a;
       }
 
-  -- what a result says of the child
-  abbrev pub Says : Result → Node X → Type 0
-  Says Unchanged c = Stocked st c
-  Says Changed c = Stocked st c
-  Says Absorb c = Stocked st c
-  Says Split c = OverFull st c
-  Says Remove c = c .items ≡ []
-
   module _ (lim : InLimits st) where
     shareOut-settles : {before : List (Node X)} (c : Node X) {after : List (Node X)} (unused : List ℕ) → OverFull st c → All (Stocked st) before → All (Stocked st) after
         → Settles 1 before c after unused (shareOut st before c after unused)
@@ -387,7 +369,7 @@ module _ (st : Settings) {X : Type 0} where
         })
 
     -- THE LAW OF SETTLING
-    pub settles : (r : Result) {before : List (Node X)} (c : Node X) {after : List (Node X)} (unused : List ℕ) → Says r c → All (Stocked st) before → All (Stocked st) after
+    pub settles : (r : Result) {before : List (Node X)} (c : Node X) {after : List (Node X)} (unused : List ℕ) → Says st r c → All (Stocked st) before → All (Stocked st) after
         → Settles (takes r) before c after unused (settle st r before c after unused)
     settles Unchanged {before} c {after} unused h b g = rests before c after unused h g
     settles Changed {before} c {after} unused h b g = rests before c after unused h g
@@ -406,17 +388,17 @@ module _ (st : Settings) {X : Type 0} where
 
   -- RESULTS
 
-  pub result-says : (b : Bool) (c : Node X) → len c ≤ 2 * st .order → (b ≡ false → Stocked st c) → Says (resultOf st b (len c)) c
+  pub result-says : (b : Bool) (c : Node X) → len c ≤ 2 * st .order → (b ≡ false → Stocked st c) → Says st (resultOf st b (len c)) c
   result-says false c two h = h refl
   result-says true c two h = by-length (c .items) two
     where
-      by-length : (xs : List X) → length xs ≤ 2 * st .order → Says (resultOf st true (length xs)) (refill c xs)
+      by-length : (xs : List X) → length xs ≤ 2 * st .order → Says st (resultOf st true (length xs)) (refill c xs)
       by-length [] le = refl
       by-length (x ∷ xs) le =
-          by-test (λ r. Says r (refill c (x ∷ xs))) (leb (suc (length xs)) (st .order))
+          by-test (λ r. Says st r (refill c (x ∷ xs))) (leb (suc (length xs)) (st .order))
           (λ e.
           let held : Stocked st (refill c (x ∷ xs)) = record { some = omega arith; few = leb-true _ _ e } in
-          by-test (λ r. Says r (refill c (x ∷ xs))) (leb (st .minimum) (suc (length xs))) (λ _. held) (λ _. held))
+          by-test (λ r. Says st r (refill c (x ∷ xs))) (leb (st .minimum) (suc (length xs))) (λ _. held) (λ _. held))
           (λ e. record { over = leb-false _ _ e; twice = le })
 
 pub result-idle : (st : Settings) (b : Bool) (n : ℕ) → isChange (resultOf st b n) ≡ false → b ≡ false

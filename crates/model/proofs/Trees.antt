@@ -16,13 +16,11 @@ use Rattle.model.specs.declared.Settings.{Settings}
 use Rattle.model.specs.Lists.{concat, hit, times, All, none, one}
 use Rattle.model.specs.Tree.{Node, Item, Tree, len, entries, slots, greatestKey, lastOf, total, isLive, adds, plus, sumOf, noTotals}
 use Rattle.model.specs.Sound.{Whole, Rooted, Sorted, Fits, Once}
+use Rattle.model.specs.Contracts.{flat, joined, back}
 use Rattle.model.proofs.Lists.{all-append, all-right, all-map, ordered-apart, parts-append, times-append, hit-same, hit-other}
 use Rattle.model.proofs.Plain.{Under, Over}
 
 -- ENTRIES OF ITEMS SIDE BY SIDE
-
-abbrev pub flat : (h : ℕ) → List (Item h) → List Entry
-flat h xs = concat (map (entries h) xs)
 
 pub flat-append : (h : ℕ) (xs ys : List (Item h)) → flat h (xs ++ ys) ≡ flat h xs ++ flat h ys
 flat-append h xs ys = parts-append (entries h) xs ys
@@ -34,21 +32,12 @@ pub flat-zero : (es : List Entry) → flat zero es ≡ es
 flat-zero [] = refl
 flat-zero (e ∷ es) = ap (e ∷_) (flat-zero es)
 
--- the items of nodes side by side
-abbrev pub joined : {X : Type 0} → List (Node X) → List X
-joined ns = concat (map (λ n. n .items) ns)
-
 pub joined-append : {X : Type 0} (xs ys : List (Node X)) → joined (xs ++ ys) ≡ joined xs ++ joined ys
 joined-append xs ys = parts-append (λ n. n .items) xs ys
 
 pub flat-joined : (h : ℕ) (ns : List (Node (Item h))) → flat (suc h) ns ≡ flat h (joined ns)
 flat-joined h [] = refl
 flat-joined h (n ∷ ns) = ap (flat h (n .items) ++_) (flat-joined h ns) ∙ sym (flat-append h (n .items) (joined ns))
-
--- the items of nodes that stand in reverse
-abbrev pub back : {X : Type 0} → List (Node X) → List X
-back [] = []
-back (c ∷ cs) = back cs ++ c .items
 
 pub back-joined : {X : Type 0} (before rest : List (Node X)) → joined (reverseAux before rest) ≡ back before ++ joined rest
 back-joined [] rest = refl

@@ -1,4 +1,5 @@
--- Document 01 as definitions, one idea a file. `Sound` and `Demands` say what is proved of them, in proofs/.
+-- Document 01 as definitions, one idea a file. `Sound` and `Demands` say what is proved of them, in proofs/;
+-- `Contracts` has the words of the inner crates' contracts.
 pub mod Lists
 pub mod Tree
 pub mod Plain
@@ -10,5 +11,6 @@ pub mod Refuse
 pub mod Frame
 pub mod ReadFrame
 pub mod Sound
+pub mod Contracts
 pub mod Demands
 pub mod Cases

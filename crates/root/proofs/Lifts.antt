@@ -15,8 +15,9 @@ use Rattle.slots.proofs.Nodes.{nth-same}
 use Rattle.model.specs.Lists.{times, All, one}
 use Rattle.model.specs.Tree.{Tree, slots, entries, release}
 use Rattle.model.specs.Change.{collapse}
+use Rattle.model.specs.Contracts.{flat}
 use Rattle.model.proofs.Lists.{all-left, all-head, all-tail, hit-same, times-append}
-use Rattle.model.proofs.Trees.{flat, slotsIn}
+use Rattle.model.proofs.Trees.{slotsIn}
 use Rattle.tree.specs.Bridge.{treeAt, childOf, kindFor, nodeFor, cells, cellsOf, Stands, Holds, unusedOf, Blank, HoldsIndex, Apart}
 use Rattle.tree.proofs.Cells.{agree-items, kind-used}
 use Rattle.tree.proofs.Unused.{used-in, unused-released}

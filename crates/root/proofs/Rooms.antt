@@ -13,10 +13,10 @@ use Rattle.model.specs.Tree.{Tree, Index, slotsOf, entriesOf}
 use Rattle.model.specs.Plain.{Task}
 use Rattle.model.specs.Change.{Remove, Split, isChange, Outcome, change, noCeiling, settleRoot, Batched, changeRoot}
 use Rattle.model.specs.Sound.{InLimits, Fits}
+use Rattle.model.specs.Contracts.{flat, Rising, Grants, Given, Enough}
 use Rattle.model.proofs.Lists.{all-left}
-use Rattle.model.proofs.Plain.{Grants, list-all, list-long}
-use Rattle.model.proofs.Trees.{flat}
-use Rattle.model.proofs.Changes.{Rising, did-left, did-rising, Owes, Given, Enough}
+use Rattle.model.proofs.Plain.{list-all, list-long}
+use Rattle.model.proofs.Changes.{did-left, did-rising, Owes}
 use Rattle.model.proofs.Batches.{Fine, RootSettled, Room, calling, called, after-call, call-given, call-owes, call-settled, call-fewer, call-enough, call-two, call-slots, call-room}
 use Rattle.tree.specs.Bridge.{Apart}
 

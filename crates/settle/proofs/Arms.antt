@@ -14,9 +14,10 @@ use Rattle.model.specs.Lists.{one, hit}
 use Rattle.model.specs.Tree.{Tree}
 use Rattle.model.specs.Share.{Place}
 use Rattle.model.specs.Change.{settle}
+use Rattle.model.specs.Contracts.{joined, back, Says, takes}
 use Rattle.model.proofs.Lists.{all-head, hit-same}
-use Rattle.model.proofs.Trees.{joined, back, back-joined}
-use Rattle.model.proofs.Settles.{Says, takes, takes-one}
+use Rattle.model.proofs.Trees.{back-joined}
+use Rattle.model.proofs.Settles.{takes-one}
 use Rattle.tree.specs.Bridge.{rowFor, nodeFor, treeAt, childOf, Holds, Blank, unusedOf}
 use Rattle.tree.specs.Bridge as T
 use Rattle.tree.proofs.Cells.{agree-items, cells-rest}

@@ -11,8 +11,9 @@ use Rattle.slots.proofs.Nodes.{length-nodes, fits-node}
 use Rattle.model.specs.declared.Settings.{Settings}
 use Rattle.model.specs.Lists.{hit, times}
 use Rattle.model.specs.Tree.{Tree, slots}
+use Rattle.model.specs.Contracts.{joined, back}
 use Rattle.model.proofs.Lists.{all-head, all-tail, hit-same}
-use Rattle.model.proofs.Trees.{joined, back, back-joined, own, slotsIn}
+use Rattle.model.proofs.Trees.{back-joined, own, slotsIn}
 use Rattle.tree.specs.Bridge.{rowFor, nodeFor}
 use Rattle.tree.specs.Bridge as T
 use Rattle.tree.proofs.Cells.{cells-rest}

@@ -15,8 +15,9 @@ use Rattle.model.specs.declared.Settings.{Settings}
 use Rattle.model.specs.Lists.{none, one, times}
 use Rattle.model.specs.Tree.{Tree, len, release}
 use Rattle.model.specs.Share.{Place}
+use Rattle.model.specs.Contracts.{joined, back}
 use Rattle.model.proofs.Lists.{hit-same, hit-other}
-use Rattle.model.proofs.Trees.{joined, back, back-joined}
+use Rattle.model.proofs.Trees.{back-joined}
 use Rattle.model.proofs.Settles.{times-release}
 use Rattle.tree.specs.Bridge.{rowFor, nodeFor, unusedOf}
 use Rattle.tree.proofs.Cells.{kind-used}

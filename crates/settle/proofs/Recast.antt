@@ -13,8 +13,9 @@ use Rattle.slots.proofs.Nodes.{nth-rows, nth-put}
 use Rattle.model.specs.Lists.{All, none, one, hit, times}
 use Rattle.model.specs.Tree.{Item, Tree, slots}
 use Rattle.model.specs.Share.{Place}
+use Rattle.model.specs.Contracts.{joined}
 use Rattle.model.proofs.Lists.{all-append, all-left, all-right, all-head, all-tail, hit-same}
-use Rattle.model.proofs.Trees.{joined, joined-append, own, own-append, slotsIn, slots-append, slots-joined}
+use Rattle.model.proofs.Trees.{joined-append, own, own-append, slotsIn, slots-append, slots-joined}
 use Rattle.tree.specs.Bridge.{rowFor, nodeFor, Cell, cells, cellsOf, Stands, Holds, Apart, Blank, unusedOf}
 use Rattle.tree.proofs.Cells.{agree-items, used-tree, cells-append, turned-cells, cells-rest, cells-before, slots-turned}
 use Rattle.tree.proofs.Unused.{used-none}

@@ -13,8 +13,9 @@ use Rattle.model.specs.declared.Settings.{Settings}
 use Rattle.model.specs.Lists.{All, none, one, hit, times}
 use Rattle.model.specs.Tree.{Item, Tree, slots}
 use Rattle.model.specs.Share.{Place}
+use Rattle.model.specs.Contracts.{joined, back}
 use Rattle.model.proofs.Lists.{all-head, all-tail, hit-same}
-use Rattle.model.proofs.Trees.{joined, back, back-joined, own, slotsIn}
+use Rattle.model.proofs.Trees.{back-joined, own, slotsIn}
 use Rattle.tree.specs.Bridge.{rowFor, nodeFor, unusedOf}
 use Rattle.tree.specs.Bridge as T
 use Rattle.tree.proofs.Cells.{cells-rest, kind-used}

@@ -10,8 +10,9 @@ use Rattle.slots.specs.Slots.{blank}
 use Rattle.model.specs.Lists.{All}
 use Rattle.model.specs.Tree.{Item, Tree, greatestKey, lastOf}
 use Rattle.model.specs.Sound.{Fits}
+use Rattle.model.specs.Contracts.{flat}
 use Rattle.model.proofs.Lists.{all-left, all-right}
-use Rattle.model.proofs.Trees.{flat, flat-append}
+use Rattle.model.proofs.Trees.{flat-append}
 use Rattle.tree.specs.Bridge.{childRow, rowFor}
 use Rattle.tree.specs.Sums.{sumRows, Sums}
 use Rattle.tree.proofs.Sums as T

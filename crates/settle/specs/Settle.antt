@@ -14,8 +14,7 @@ use Rattle.model.specs.Tree.{Tree, slots}
 use Rattle.model.specs.Share.{Place}
 use Rattle.model.specs.Change.{Result, Unchanged, Remove, Split, Absorb, Changed, settle}
 use Rattle.model.specs.Sound.{Stocked, Fits}
-use Rattle.model.proofs.Trees.{flat, joined, back}
-use Rattle.model.proofs.Settles.{Says, takes}
+use Rattle.model.specs.Contracts.{flat, joined, back, Says, takes}
 use Rattle.tree.specs.Bridge.{treeAt, childOf, nodeFor, cellsOf, Stands, Holds, unusedOf, Blank, Apart, Frame}
 use Rattle.settle.specs.declared.ChangeResult.{ChangeResult}
 use Rattle.settle.specs.declared.ChangeResult.the-variants as Be

@@ -12,7 +12,7 @@ use Rattle.model.specs.Lists.{All}
 use Rattle.model.specs.Tree.{Node, Item, Tree, lowest}
 use Rattle.model.specs.Share.{Two, Row, Place, full, stay}
 use Rattle.model.specs.Sound.{Stocked, Fits}
-use Rattle.model.proofs.Trees.{flat, joined}
+use Rattle.model.specs.Contracts.{flat, joined}
 use Rattle.tree.specs.Bridge.{Holds, Apart, Blank, unusedOf}
 use Rattle.settle.specs.Settle.{Low, Settled, inner, kidsAt, childAt, beforeAt, afterAt}
 

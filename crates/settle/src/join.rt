@@ -7,7 +7,7 @@ ghost use Rattle.slots.specs.Nodes.{Now, nodes};
 ghost use Rattle.model.specs.Tree.{len, refill, release};
 ghost use Rattle.model.specs.Share.{halved, join, followed};
 ghost use Rattle.model.specs.Change.{Absorb, Remove};
-ghost use Rattle.model.proofs.Settles.{Says};
+ghost use Rattle.model.specs.Contracts.{Says};
 ghost use Rattle.tree.specs.Bridge.{unusedOf};
 ghost use Rattle.settle.specs.declared.ChangeResult.the-variants as Be;
 ghost use Rattle.settle.specs.Settle.{Low, Done, childAt, beforeAt, afterAt};

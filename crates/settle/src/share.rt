@@ -7,7 +7,7 @@ ghost use Rattle.slots.specs.Nodes.{nodes};
 ghost use Rattle.model.specs.Tree.{len, lowest, others};
 ghost use Rattle.model.specs.Share.{halved, shareBack, shareOn, splitOver, shareNext, followed};
 ghost use Rattle.model.specs.Change.{Split};
-ghost use Rattle.model.proofs.Settles.{Says};
+ghost use Rattle.model.specs.Contracts.{Says};
 ghost use Rattle.tree.specs.Bridge.{unusedOf};
 ghost use Rattle.settle.specs.declared.ChangeResult.the-variants as Be;
 ghost use Rattle.settle.specs.Settle.{Done, childAt, beforeAt, afterAt};

@@ -16,8 +16,9 @@ use Rattle.model.specs.declared.Settings.{Settings}
 use Rattle.model.specs.Lists.{hit, times, All, none, one, nil, cons}
 use Rattle.model.specs.Tree.{Tree, entries, slots}
 use Rattle.model.specs.Sound.{Whole, Sorted}
+use Rattle.model.specs.Contracts.{flat}
 use Rattle.model.proofs.Lists.{all-append, all-map, hit-same, hit-other, times-append}
-use Rattle.model.proofs.Trees.{flat, slotsIn, slots-leaf, Ends, separator-ends}
+use Rattle.model.proofs.Trees.{slotsIn, slots-leaf, Ends, separator-ends}
 use Rattle.tree.specs.Bridge.{childOf, treeAt}
 use Rattle.tree.specs.Pool.{firstChild, heightAt, Kinds}
 use Rattle.tree.proofs.Counts.{times-all}

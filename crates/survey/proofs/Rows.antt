@@ -14,8 +14,9 @@ use Rattle.model.specs.declared.Settings.{Settings}
 use Rattle.model.specs.Lists.{All, none, one}
 use Rattle.model.specs.Tree.{Item, Tree, entries, slots}
 use Rattle.model.specs.Sound.{Whole, Fits}
+use Rattle.model.specs.Contracts.{flat}
 use Rattle.model.proofs.Lists.{all-append, all-left, all-right, all-head, all-tail, all-map}
-use Rattle.model.proofs.Trees.{flat, slotsIn}
+use Rattle.model.proofs.Trees.{slotsIn}
 use Rattle.tree.specs.Bridge.{entryOf, childOf, treeAt}
 use Rattle.tree.specs.Pool.{Kinds, EachChild, Separates, Totalled}
 use Rattle.survey.specs.Checked.{Last, after, Beyond, There, EachThere, Head, Opened, Tail, Right}

@@ -17,7 +17,8 @@ use Rattle.model.specs.declared.Settings.{Settings}
 use Rattle.model.specs.Lists.{All}
 use Rattle.model.specs.Tree.{Item, Tree, entries, slots, total, greatestKey, sumOf, plus}
 use Rattle.model.specs.Sound.{Whole}
-use Rattle.model.proofs.Trees.{flat, slotsIn, separator-ends, zero-plus, plus-zero, plus-assoc}
+use Rattle.model.specs.Contracts.{flat}
+use Rattle.model.proofs.Trees.{slotsIn, separator-ends, zero-plus, plus-zero, plus-assoc}
 use Rattle.tree.specs.Bridge.{entryOf, childOf, treeAt}
 use Rattle.tree.specs.Sums.{Addable}
 use Rattle.survey.specs.declared.walk.Part.{Part}

@@ -15,8 +15,9 @@ use Rattle.model.specs.declared.Settings.{Settings}
 use Rattle.model.specs.Lists.{All, none, one}
 use Rattle.model.specs.Tree.{Item, Tree, Index, len, entries, slots, slotsOf, total}
 use Rattle.model.specs.Sound.{InLimits, Whole, Fits, Sound}
+use Rattle.model.specs.Contracts.{flat}
 use Rattle.model.proofs.Lists.{all-append, all-left, all-right, all-map, all-of, all-head}
-use Rattle.model.proofs.Trees.{flat, slotsIn, listTotals, total-list, totals-count, sizes-few, root-few}
+use Rattle.model.proofs.Trees.{slotsIn, listTotals, total-list, totals-count, sizes-few, root-few}
 use Rattle.model.proofs.Readable.{separator-has}
 use Rattle.tree.specs.Bridge.{kindFor, rowFor, nodeFor, Cell, cells, cellsOf}
 use Rattle.tree.specs.Pool.{nodesOf, wordsOf}

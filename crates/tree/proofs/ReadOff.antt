@@ -11,8 +11,9 @@ use Rattle.model.specs.declared.Entry.{Entry}
 use Rattle.model.specs.declared.Totals.{Totals}
 use Rattle.model.specs.Lists.{All, none, one}
 use Rattle.model.specs.Tree.{Item, Tree, entries, greatestKey, total}
+use Rattle.model.specs.Contracts.{flat}
 use Rattle.model.proofs.Lists.{all-left, all-right, all-head, all-tail}
-use Rattle.model.proofs.Trees.{flat, listTotals, total-list, totals-count}
+use Rattle.model.proofs.Trees.{listTotals, total-list, totals-count}
 use Rattle.tree.specs.Bridge.{entryOf, entryRow, childOf, rowFor, cells, cellsOf, Stands, Holds, treeAt}
 use Rattle.tree.proofs.Rows.{slot-back}
 

@@ -14,7 +14,8 @@ use Rattle.model.specs.declared.Totals.{Totals}
 use Rattle.model.specs.Lists.{All, none, one}
 use Rattle.model.specs.Tree.{Item, Tree, entries, greatestKey, total, plus, sumOf, noTotals}
 use Rattle.model.specs.Sound.{Fits}
-use Rattle.model.proofs.Trees.{flat, listTotals, total-list, totals-count, sizes-few, plus-zero, plus-assoc}
+use Rattle.model.specs.Contracts.{flat}
+use Rattle.model.proofs.Trees.{listTotals, total-list, totals-count, sizes-few, plus-zero, plus-assoc}
 use Rattle.tree.specs.Bridge.{childTotals, rowTotals, rowFor}
 use Rattle.tree.specs.Sums.{sumRows, Addable, Sums}
 use Rattle.tree.proofs.Rows.{totals-back}
