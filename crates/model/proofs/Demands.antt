@@ -14,7 +14,7 @@ use Rattle.model.specs.Answer.{unless}
 use Rattle.model.specs.Look.{listing, found, dueIn}
 use Rattle.model.specs.Refuse.{Call, tasksOf, refusal, indexAfter}
 use Rattle.model.specs.Sound.{Rooted, Sound}
-use Rattle.model.specs.Demands.{Lent, Batches, OneBatch, RemoveTakesNone, runAll, plainAfter, plainAll, AnswersFrom, Demand3, Swap, Demands}
+use Rattle.model.specs.Demands.{Lent, Batches, OneBatch, RemoveTakesNone, NoInteriorPasses, runAll, plainAfter, plainAll, AnswersFrom, Demand3, Swap, Demands}
 use Rattle.model.specs.Contracts.{Ready}
 use Rattle.model.proofs.Lists.{all-map, all-swap}
 use Rattle.model.proofs.Plain.{list-sorted, list-all, Differs, list-swap, counts-swap}
@@ -23,6 +23,8 @@ use Rattle.model.proofs.Batches.{Fine, BatchOwes, batch-law}
 use Rattle.model.proofs.Calls.{Passes, passes, removing, all-keys, new-sound}
 use Rattle.model.proofs.Scans.{openings-law}
 use Rattle.model.proofs.OverFull.{over-full-child}
+use Rattle.model.proofs.Separators.{shared-separators, sound-separators}
+use Rattle.model.proofs.Interiors.{uncrowded, root-given}
 use Rattle.model.proofs.Frames.{read-written, write-read}
 use Rattle.model.proofs.Readable.{frames-read}
 
@@ -69,6 +71,12 @@ remove-takes-none st c x s lent q e =
     let o = owes st c x s lent q in
     let rem = removing (c .operation) (references (c .places) (c .sizes)) (c .keys) e in
     (o .grows rem, suc-le-suc (o .lower rem))
+
+pub no-interior-passes : NoInteriorPasses
+no-interior-passes st c x s lent q calls =
+    let p : Passes st c x = passes st c x s lent q in
+    uncrowded st (s .settings) _ _ _ _
+    (root-given st (s .settings) calls x (tasksOf c) noCounts (p .short) (sound-fine st x s) (p .rising) (p .low))
 
 -- ANY SEQUENCE
 
@@ -135,7 +143,10 @@ demands =
     record {
       oneBatch = one-batch;
       removeTakesNone = remove-takes-none;
+      noInteriorPasses = no-interior-passes;
       overFullChild = over-full-child;
+      sharedSeparators = shared-separators;
+      soundSeparators = sound-separators;
       demand3 = demand-3;
       swap = swap;
       openingsList = λ st q x s. openings-law q st (x .height) (x .root) (s .whole) (s .sorted);

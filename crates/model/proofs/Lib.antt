@@ -10,6 +10,8 @@ pub mod Scans
 pub mod Frames
 pub mod Readable
 pub mod OverFull
+pub mod Separators
+pub mod Interiors
 pub mod Calls
 pub mod Demands
 pub mod Cases

@@ -2,10 +2,10 @@
 -- Assumes nothing.
 use mathlib.Core.Path.{_≡_}
 use mathlib.Core.Logic.{_≢_}
-use mathlib.Core.Bool.{true}
+use mathlib.Core.Bool.{true, false}
 use mathlib.Core.List.{List, [], _∷_, _++_, map, reverseAux}
 use Prim.Native.Nat.{ℕ, zero, suc, _*_, _^_, _≤_, _<_}
-use lib.ListN.{drop}
+use lib.ListN.{length, drop}
 use Rattle.model.specs.declared.Entry.{Entry}
 use Rattle.model.specs.declared.Reference.{Reference}
 use Rattle.model.specs.declared.Settings.{Settings}
@@ -14,16 +14,17 @@ use Rattle.model.specs.declared.Action.the-variants as Do
 use Rattle.model.specs.declared.Operation.{Operation}
 use Rattle.model.specs.declared.Operation.the-variants as Op
 use Rattle.model.specs.Lists.{concat, times, All}
-use Rattle.model.specs.Tree.{Node, Index, len, depth, entriesOf, totalsOf, adds, sumOf, newIndex}
+use Rattle.model.specs.Tree.{Node, Item, Tree, Index, len, depth, entries, greatestKey, entriesOf, totalsOf, adds, sumOf, newIndex}
 use Rattle.model.specs.Plain.{Task, plainList, plainCounts, noCounts}
 use Rattle.model.specs.Share.{Place, shareOut}
-use Rattle.model.specs.Change.{Batched, batch}
+use Rattle.model.specs.Change.{Run, walk, change, changeRoot, Batched, batch}
 use Rattle.model.specs.Answer.{done}
 use Rattle.model.specs.Look.{Request, listing, found, getAll, dueIn, openings, scan}
 use Rattle.model.specs.Refuse.{Call, tasksOf, isRemove, refusal, answer, indexAfter}
 use Rattle.model.specs.Frame.{Frame, keysOf, framesOf, lineOf, entriesRefusal}
 use Rattle.model.specs.ReadFrame.{readLine}
-use Rattle.model.specs.Sound.{InLimits, Sound, FrameFits}
+use Rattle.model.specs.Sound.{InLimits, Whole, Sorted, Sound, FrameFits}
+use Rattle.model.specs.Contracts.{flat, joined, OverFull}
 
 -- WHAT A CALL LENDS are numbers of their types: keys and places of 8 bytes, sizes of 4
 
@@ -64,21 +65,63 @@ RemoveTakesNone =
     (st : Settings) (c : Call) (x : Index) → Sound st x → Lent c → refusal st c x ≡ 0 → isRemove (c .operation) ≡ true
     → ((s : ℕ) → times s (x .unused) ≤ times s (batch st (tasksOf c) x .index .unused)) × (depth (batch st (tasksOf c) x .index) ≤ depth x)
 
+-- NO INTERIOR PASSES 2 × ORDER while a batch runs, since a batch holds at most order keys
+
+-- While a node takes tasks: after any number of turns of its walk it has at most 2 × order children, and so has each interior below it, should
+-- that take the tasks that are left. (A walk that is allowed fewer turns than it wants stops where it has come to.)
+abbrev pub Uncrowded : Settings → (h : ℕ) → Tree h → List Task → Run → Type 0
+Uncrowded st zero n ts run = Unit {0}
+Uncrowded st (suc h) n ts run =
+    (turns ceiling : ℕ)
+    → let w = walk st (greatestKey (suc h)) (change st h) turns ceiling [] (n .items) false ts run in
+    (length (w .items) ≤ 2 * st .order) × All (λ c. Uncrowded st h c (w .tasks) (w .run)) (w .items)
+
+-- so the root and all below it, after any number of the root's calls
+abbrev pub NoInteriorPasses : Type 0
+NoInteriorPasses =
+    (st : Settings) (c : Call) (x : Index) → Sound st x → Lent c → refusal st c x ≡ 0 → (calls : ℕ)
+    → let b = changeRoot st calls x (tasksOf c) noCounts in
+    Uncrowded st (b .index .height) (b .index .root) (b .tasks) (record { unused = b .index .unused; counts = b .counts })
+
 -- AN OVER-FULL CHILD, of at most 2 × order, beside siblings of at most order: every node that sharing and splitting change ends with minimum
--- to order items, and the joined items are the same. (Separators are greatest keys by their definition.)
+-- to order items, and the joined items are the same
 pub record SharedOut (st : Settings) {X : Type 0} (before : List (Node X)) (c : Node X) (after : List (Node X)) (p : Place (Node X)) : Type 0 where
   pub left : ℕ
   pub right : ℕ
   pub changed : List (Node X)
   pub nodes : reverseAux (p .before) (p .rest) ≡ reverseAux (drop left before) (changed ++ drop right after)
   pub sized : All (λ n. (st .minimum ≤ len n) × (len n ≤ st .order)) changed
-  pub same : concat (map (λ n. n .items) (reverseAux (p .before) (p .rest))) ≡ concat (map (λ n. n .items) (reverseAux before (c ∷ after)))
+  pub same : joined (reverseAux (p .before) (p .rest)) ≡ joined (reverseAux before (c ∷ after))
 
 abbrev pub OverFullChild : Type 1
 OverFullChild =
     (st : Settings) (X : Type 0) (before : List (Node X)) (c : Node X) (after : List (Node X)) (unused : List ℕ) → InLimits st
     → st .order < len c → len c ≤ 2 * st .order → All (λ n. len n ≤ st .order) before → All (λ n. len n ≤ st .order) after
     → SharedOut st before c after (shareOut st before c after unused)
+
+-- SEPARATORS ARE GREATEST KEYS. A node's separator is worked out as its last key (specs/Tree): that is one of the keys below the node, and none of
+-- them is above it.
+
+pub record Greatest (k : ℕ) (es : List Entry) : Type 0 where
+  pub among : 0 < times k (map (λ e. e .key) es)
+  pub most : All (λ e. e .key ≤ k) es
+
+-- of a node, and of each node below it
+abbrev pub Separated : (h : ℕ) → Item h → Type 0
+Separated zero e = Unit {0}
+Separated (suc h) n = Greatest (greatestKey (suc h) n) (entries (suc h) n) × All (Separated h) (n .items)
+
+-- of each node after sharing and splitting an over-full child, where keys ascend, and its siblings and the nodes below have 1 to order items
+abbrev pub SharedSeparators : Type 0
+SharedSeparators =
+    (st : Settings) (h : ℕ) (before : List (Tree h)) (c : Tree h) (after : List (Tree h)) (unused : List ℕ) → InLimits st
+    → OverFull st c → All (Whole st (suc h)) before → All (Whole st h) (c .items) → All (Whole st (suc h)) after
+    → Sorted (flat (suc h) (reverseAux before (c ∷ after)))
+    → let p = shareOut st before c after unused in All (Separated (suc h)) (reverseAux (p .before) (p .rest))
+
+-- and of each node below the root of a sound index, so before and after every batch
+abbrev pub SoundSeparators : Type 0
+SoundSeparators = (st : Settings) (x : Index) → Sound st x → All (Separated (x .height)) (x .root .items)
 
 -- ANY SEQUENCE OF BATCHES from a new index
 
@@ -145,7 +188,10 @@ FramesRead = (st : Settings) (x : Index) → Sound st x → All (λ f. readLine 
 pub record Demands : Type 1 where
   pub oneBatch : OneBatch
   pub removeTakesNone : RemoveTakesNone
+  pub noInteriorPasses : NoInteriorPasses
   pub overFullChild : OverFullChild
+  pub sharedSeparators : SharedSeparators
+  pub soundSeparators : SoundSeparators
   pub demand3 : Demand3
   pub swap : Swap
   pub openingsList : OpeningsList
