@@ -9,4 +9,5 @@ pub program-prints : Hold program
 program-prints = (refl, (refl, (refl, (refl, tt))))
 
 pub readings-hold : Hold readings
-readings-hold = (refl, (refl, (refl, (refl, (refl, (refl, (refl, (refl, (refl, (refl, (refl, (refl, (refl, tt)))))))))))))
+readings-hold =
+    (refl, (refl, (refl, (refl, (refl, (refl, (refl, (refl, (refl, (refl, (refl, (refl, (refl, (refl, (refl, (refl, (refl, tt)))))))))))))))))

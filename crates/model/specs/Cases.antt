@@ -18,15 +18,16 @@ use Rattle.model.specs.declared.Bound.{Bound}
 use Rattle.model.specs.declared.Bound.the-variants.{Unbounded, Included, Excluded}
 use Rattle.model.specs.declared.Direction.{Direction}
 use Rattle.model.specs.declared.Direction.the-variants.{Up, Down}
-use Rattle.model.specs.declared.Sift.the-variants.{All}
+use Rattle.model.specs.declared.Sift.{Sift}
+use Rattle.model.specs.declared.Sift.the-variants.{All, SizeAtLeast}
 use Rattle.model.specs.Lists.{concat, upFrom}
-use Rattle.model.specs.Tree.{Tree, Index, slotsOf, totalsOf, newIndex}
+use Rattle.model.specs.Tree.{Tree, Index, depth, slotsOf, totalsOf, newIndex}
 use Rattle.model.specs.Plain.{entryFor}
 use Rattle.model.specs.Share.{shareOut}
 use Rattle.model.specs.Change.{Batched}
 use Rattle.model.specs.Answer.{Answer, refused, done}
-use Rattle.model.specs.Look.{scan, getAll}
-use Rattle.model.specs.Refuse.{Call, answer, indexAfter}
+use Rattle.model.specs.Look.{Listing, scan}
+use Rattle.model.specs.Refuse.{Call, answer, indexAfter, get}
 use Rattle.model.specs.Frame.{Frame, leaf, interior, framesOf, lineOf}
 use Rattle.model.specs.ReadFrame.{readLine}
 
@@ -52,6 +53,10 @@ text (String._∷_ c s) = code c ∷ text s
 
 abbrev pub desk : Settings
 desk = record { nodes = 16; order = 4; minimum = 2 }
+
+-- the same with N = 8
+abbrev pub eight : Settings
+eight = record { nodes = 8; order = 4; minimum = 2 }
 
 -- key k has place 256 + k and size 16, as in the program's input
 abbrev pub ref : ℕ → Reference
@@ -79,12 +84,27 @@ abbrev pub keysIn : Frame → List (List ℕ)
 keysIn (leaf es) = map (λ e. e .key) es ∷ []
 keysIn (interior bs) = []
 
--- the keys of each leaf
-abbrev pub leaves : Index → List (List ℕ)
-leaves x = concat (map keysIn (framesOf x))
+-- the depth, and the keys of each leaf
+pub record Shape : Type 0 where
+  pub deep : ℕ
+  pub leaves : List (List ℕ)
+
+abbrev pub shape : Index → Shape
+shape x = record { deep = depth x; leaves = concat (map keysIn (framesOf x)) }
+
+-- a lone leaf, and leaves below the root
+abbrev pub lone : List ℕ → Shape
+lone ks = record { deep = 1; leaves = ks ∷ [] }
+
+abbrev pub below : List (List ℕ) → Shape
+below kss = record { deep = 2; leaves = kss }
 
 abbrev pub lines : Index → List (List ℕ)
 lines x = map lineOf (framesOf x)
+
+-- a get that found these, and no more
+abbrev pub listed : List Entry → Answer Listing
+listed es = done (record { written = es; more = false })
 
 pub record Seen : Type 0 where
   pub keys : List ℕ
@@ -95,11 +115,17 @@ pub record Seen : Type 0 where
 abbrev pub clear2 : Call
 clear2 = record { operation = Op.Set (record { place = 0; size = 5 }); places = []; sizes = []; keys = 2 ∷ [] }
 
--- a scan between two bounds, with room for so many
-abbrev pub between : Direction → Bound → Bound → ℕ → Index → Seen
-between d a b room x =
-    let s = scan (record { start = a; end = b; direction = d; sift = All }) room x in
+-- a scan between two bounds, of what passes a sift, with room for so many
+abbrev pub sifted : Sift → Direction → Bound → Bound → ℕ → Index → Seen
+sifted f d a b room x =
+    let s = scan (record { start = a; end = b; direction = d; sift = f }) room x in
     record { keys = map (λ e. e .key) (s .listed .written); opened = s .opened; more = s .listed .more }
+
+abbrev pub between : Direction → Bound → Bound → ℕ → Index → Seen
+between = sifted All
+
+abbrev pub ofSize : ℕ → Direction → Index → Seen
+ofSize s d x = sifted (SizeAtLeast s) d Unbounded Unbounded 9 x
 
 abbrev pub P : Index
 P = after desk (set (1 ∷ 2 ∷ 3 ∷ 4 ∷ []) ∷ set (5 ∷ []) ∷ []) (newIndex 16)
@@ -147,27 +173,27 @@ childSlots n = map (λ c. c .slot) (n .items)
 abbrev pub cases : List Case
 cases =
     case (List (List ℕ)) (lines (newIndex 16)) (text "01" ∷ [])
-    ∷ case (List (List ℕ)) (leaves P) ((1 ∷ 2 ∷ 3 ∷ []) ∷ (4 ∷ 5 ∷ []) ∷ [])
-    ∷ case (List (List ℕ)) (leaves P3) ((1 ∷ 2 ∷ 3 ∷ 4 ∷ []) ∷ (5 ∷ 6 ∷ 7 ∷ 8 ∷ []) ∷ [])
-    ∷ case (List (List ℕ)) (leaves P4) ((1 ∷ 2 ∷ 3 ∷ 4 ∷ []) ∷ (5 ∷ 6 ∷ 7 ∷ []) ∷ (8 ∷ 9 ∷ []) ∷ [])
-    ∷ case (List (List ℕ)) (leaves (after desk (drop (4 ∷ []) ∷ []) P)) ((1 ∷ 2 ∷ 3 ∷ 5 ∷ []) ∷ [])
-    ∷ case (List (List ℕ)) (leaves (after desk (drop (5 ∷ 6 ∷ 7 ∷ []) ∷ []) P3)) ((1 ∷ 2 ∷ 3 ∷ []) ∷ (4 ∷ 8 ∷ []) ∷ [])
+    ∷ case Shape (shape P) (below ((1 ∷ 2 ∷ 3 ∷ []) ∷ (4 ∷ 5 ∷ []) ∷ []))
+    ∷ case Shape (shape P3) (below ((1 ∷ 2 ∷ 3 ∷ 4 ∷ []) ∷ (5 ∷ 6 ∷ 7 ∷ 8 ∷ []) ∷ []))
+    ∷ case Shape (shape P4) (below ((1 ∷ 2 ∷ 3 ∷ 4 ∷ []) ∷ (5 ∷ 6 ∷ 7 ∷ []) ∷ (8 ∷ 9 ∷ []) ∷ []))
+    ∷ case Shape (shape (after desk (drop (4 ∷ []) ∷ []) P)) (lone (1 ∷ 2 ∷ 3 ∷ 5 ∷ []))
+    ∷ case Shape (shape (after desk (drop (5 ∷ 6 ∷ 7 ∷ []) ∷ []) P3)) (below ((1 ∷ 2 ∷ 3 ∷ []) ∷ (4 ∷ 8 ∷ []) ∷ []))
     ∷ case (List (List ℕ)) (map childSlots (shareOut desk (wide 1 (3 ∷ 4 ∷ 5 ∷ []) ∷ []) (wide 2 (6 ∷ 7 ∷ 8 ∷ 9 ∷ 10 ∷ [])) [] [] .rest))
     ((3 ∷ 4 ∷ 5 ∷ 6 ∷ []) ∷ (7 ∷ 8 ∷ 9 ∷ 10 ∷ []) ∷ [])
-    ∷ case (List (List ℕ)) (told (answer desk (set (1 ∷ [])) (newIndex 8)) ∷ told (answer desk (set (1 ∷ 2 ∷ [])) (newIndex 8)) ∷ [])
+    ∷ case (List (List ℕ)) (told (answer eight (set (1 ∷ [])) (newIndex 8)) ∷ told (answer eight (set (1 ∷ 2 ∷ [])) (newIndex 8)) ∷ [])
     ((1 ∷ 0 ∷ 0 ∷ 0 ∷ []) ∷ (7 ∷ []) ∷ [])
     ∷ case (List (List ℕ)) (told (answer desk (set (1 ∷ 2 ∷ 3 ∷ 4 ∷ [])) (newIndex 16)) ∷ told (answer desk (set (1 ∷ 2 ∷ 3 ∷ 4 ∷ 5 ∷ [])) (newIndex 16)) ∷ [])
     ((4 ∷ 0 ∷ 0 ∷ 0 ∷ []) ∷ (3 ∷ []) ∷ [])
-    ∷ case (List Entry × List ℕ)
+    ∷ case (Answer Listing × List ℕ)
     (let a = answer desk (record { operation = Op.SetEach; places = 257 ∷ 258 ∷ []; sizes = 16 ∷ 16 ∷ []; keys = 7 ∷ 7 ∷ [] }) (newIndex 16) in
-    (getAll (7 ∷ []) 9 (indexAfter (newIndex 16) a) .written, told a))
-    (entryFor 7 (ref 2) ∷ [], 1 ∷ 1 ∷ 0 ∷ 0 ∷ [])
+    (get (7 ∷ []) 9 (indexAfter (newIndex 16) a), told a))
+    (listed (entryFor 7 (ref 2) ∷ []), 1 ∷ 1 ∷ 0 ∷ 0 ∷ [])
     ∷ case (List Seen) (between Up (Excluded 3) (Included 5) 9 P ∷ between Down (Excluded 3) (Included 5) 9 P ∷ [])
     (record { keys = 4 ∷ 5 ∷ []; opened = 2; more = false } ∷ record { keys = 5 ∷ 4 ∷ []; opened = 2; more = false } ∷ [])
     ∷ case (List ℕ)
     (between Up (Included 1) (Included 2) 9 P .opened ∷ between Down (Included 1) (Included 2) 9 P .opened ∷ between Up (Included 1) (Included 3) 9 P .opened ∷ [])
     (2 ∷ 3 ∷ 3 ∷ [])
-    ∷ case (List Entry) (getAll (2 ∷ 2 ∷ 9 ∷ []) 9 P .written) (entryFor 2 (ref 2) ∷ entryFor 2 (ref 2) ∷ [])
+    ∷ case (Answer Listing) (get (2 ∷ 2 ∷ 9 ∷ []) 9 P) (listed (entryFor 2 (ref 2) ∷ entryFor 2 (ref 2) ∷ []))
     ∷ case Seen (between Up Unbounded Unbounded 0 P) (record { keys = []; opened = 2; more = true })
     ∷ []
 
@@ -194,7 +220,11 @@ abbrev pub broad : Settings
 broad = record { nodes = 16; order = 7; minimum = 3 }
 
 abbrev pub fiveOfEight : Index
-fiveOfEight = after (record { nodes = 8; order = 4; minimum = 2 }) (set (1 ∷ []) ∷ set (2 ∷ []) ∷ set (3 ∷ []) ∷ set (4 ∷ []) ∷ set (5 ∷ []) ∷ []) (newIndex 8)
+fiveOfEight = after eight (set (1 ∷ []) ∷ set (2 ∷ []) ∷ set (3 ∷ []) ∷ set (4 ∷ []) ∷ set (5 ∷ []) ∷ []) (newIndex 8)
+
+-- P with size 64 under key 5
+abbrev pub large5 : Index
+large5 = after desk (record { operation = Op.SetEach; places = 261 ∷ []; sizes = 64 ∷ []; keys = 5 ∷ [] } ∷ []) P
 
 abbrev pub readings : List Case
 readings =
@@ -202,34 +232,53 @@ readings =
     case (List ℕ) (slotsOf P) (0 ∷ 1 ∷ 2 ∷ [])
     ∷ case (List ℕ × List ℕ) (let x = after desk (drop (4 ∷ []) ∷ []) P in (slotsOf x, x .unused)) (0 ∷ [], upFrom 1 15)
     -- Compare whose action is Remove: on an absent key it does nothing, and refusal 7 is for it too
-    ∷ case (List (List ℕ)) (told (answer desk absentRemove (newIndex 16)) ∷ told (answer desk absentRemove fiveOfEight) ∷ []) ((0 ∷ 0 ∷ 0 ∷ 1 ∷ []) ∷ (7 ∷ []) ∷ [])
+    ∷ case (List (List ℕ)) (told (answer desk absentRemove (newIndex 16)) ∷ told (answer eight absentRemove fiveOfEight) ∷ [])
+    ((0 ∷ 0 ∷ 0 ∷ 1 ∷ []) ∷ (7 ∷ []) ∷ [])
     -- a dead entry is no more listed by a scan, still found by a get, and counted as dead
-    ∷ case (List Seen × List Entry × Totals)
-    (let x = after desk (clear2 ∷ []) P in (between Up Unbounded (Included 3) 9 x ∷ [], getAll (2 ∷ []) 9 x .written, totalsOf x))
-    (record { keys = 1 ∷ 3 ∷ []; opened = 3; more = false } ∷ [], record { key = 2; place = 0; size = 5 } ∷ [], record { live = 4; dead = 1; size = 69 })
+    ∷ case (List Seen × Answer Listing × Totals)
+    (let x = after desk (clear2 ∷ []) P in (between Up Unbounded (Included 3) 9 x ∷ [], get (2 ∷ []) 9 x, totalsOf x)) (
+      record { keys = 1 ∷ 3 ∷ []; opened = 3; more = false } ∷ [],
+      listed (record { key = 2; place = 0; size = 5 } ∷ []),
+      record { live = 4; dead = 1; size = 69 },
+    )
     -- start above end
     ∷ case (List Seen) (between Up (Included 5) (Included 1) 9 P ∷ between Down (Included 5) (Included 1) 9 P ∷ [])
     (record { keys = []; opened = 1; more = false } ∷ record { keys = []; opened = 2; more = false } ∷ [])
+    -- an Excluded end: upwards the loop ends once the previous separator is at it, backwards it does not
+    ∷ case (List Seen) (between Up (Included 1) (Excluded 3) 9 P ∷ between Down (Included 1) (Excluded 3) 9 P ∷ [])
+    (record { keys = 1 ∷ 2 ∷ []; opened = 2; more = false } ∷ record { keys = 2 ∷ 1 ∷ []; opened = 3; more = false } ∷ [])
+    ∷ case (List Seen) (between Up Unbounded (Excluded 4) 9 P ∷ between Down Unbounded (Excluded 4) 9 P ∷ [])
+    (record { keys = 1 ∷ 2 ∷ 3 ∷ []; opened = 3; more = false } ∷ record { keys = 3 ∷ 2 ∷ 1 ∷ []; opened = 3; more = false } ∷ [])
+    -- SizeAtLeast, of leaves of 3 × 16 and 16 + 64: a child is opened for its total size, an entry is listed for its own
+    ∷ case (List Seen) (ofSize 48 Up large5 ∷ ofSize 48 Down large5 ∷ ofSize 49 Up large5 ∷ ofSize 49 Down large5 ∷ [])
+    (record { keys = 5 ∷ []; opened = 3; more = false } ∷ record { keys = 5 ∷ []; opened = 3; more = false }
+    ∷ record { keys = 5 ∷ []; opened = 2; more = false } ∷ record { keys = 5 ∷ []; opened = 2; more = false } ∷ [])
+    ∷ case (List Seen) (ofSize 16 Up large5 ∷ ofSize 16 Down large5 ∷ ofSize 64 Up large5 ∷ ofSize 65 Up large5 ∷ ofSize 81 Down large5 ∷ [])
+    (record { keys = 1 ∷ 2 ∷ 3 ∷ 4 ∷ 5 ∷ []; opened = 3; more = false } ∷ record { keys = 5 ∷ 4 ∷ 3 ∷ 2 ∷ 1 ∷ []; opened = 3; more = false }
+    ∷ record { keys = 5 ∷ []; opened = 2; more = false } ∷ record { keys = []; opened = 2; more = false }
+    ∷ record { keys = []; opened = 1; more = false } ∷ [])
     -- output full
     ∷ case (List Seen) (between Up Unbounded Unbounded 2 P ∷ between Up Unbounded Unbounded 3 P ∷ between Up Unbounded Unbounded 5 P ∷ [])
     (record { keys = 1 ∷ 2 ∷ []; opened = 2; more = true } ∷ record { keys = 1 ∷ 2 ∷ 3 ∷ []; opened = 3; more = true }
     ∷ record { keys = 1 ∷ 2 ∷ 3 ∷ 4 ∷ 5 ∷ []; opened = 3; more = false } ∷ [])
     -- after sharing with the previous child the walk steps back: 7 goes before 10
-    ∷ case (List (List ℕ)) (leaves (after desk (set (5 ∷ 7 ∷ []) ∷ []) (grove ((1 ∷ 2 ∷ []) ∷ (10 ∷ 20 ∷ 30 ∷ 40 ∷ []) ∷ []))))
-    ((1 ∷ 2 ∷ 5 ∷ 7 ∷ []) ∷ (10 ∷ 20 ∷ 30 ∷ 40 ∷ []) ∷ [])
+    ∷ case Shape (shape (after desk (set (5 ∷ 7 ∷ []) ∷ []) (grove ((1 ∷ 2 ∷ []) ∷ (10 ∷ 20 ∷ 30 ∷ 40 ∷ []) ∷ []))))
+    (below ((1 ∷ 2 ∷ 5 ∷ 7 ∷ []) ∷ (10 ∷ 20 ∷ 30 ∷ 40 ∷ []) ∷ []))
     -- the previous sibling is shared with first ..
-    ∷ case (List (List ℕ)) (leaves (after desk (set (55 ∷ 65 ∷ []) ∷ []) (grove ((10 ∷ 20 ∷ 30 ∷ []) ∷ (50 ∷ 60 ∷ 70 ∷ []) ∷ (80 ∷ 90 ∷ []) ∷ []))))
-    ((10 ∷ 20 ∷ 30 ∷ 50 ∷ []) ∷ (55 ∷ 60 ∷ 65 ∷ 70 ∷ []) ∷ (80 ∷ 90 ∷ []) ∷ [])
+    ∷ case Shape (shape (after desk (set (55 ∷ 65 ∷ []) ∷ []) (grove ((10 ∷ 20 ∷ 30 ∷ []) ∷ (50 ∷ 60 ∷ 70 ∷ []) ∷ (80 ∷ 90 ∷ []) ∷ []))))
+    (below ((10 ∷ 20 ∷ 30 ∷ 50 ∷ []) ∷ (55 ∷ 60 ∷ 65 ∷ 70 ∷ []) ∷ (80 ∷ 90 ∷ []) ∷ []))
     -- .. and joined with, unless the child is the first; a joint length above order is halved
-    ∷ case (List (List ℕ)) (leaves (after desk (drop (5 ∷ 6 ∷ []) ∷ []) P4)) ((1 ∷ 2 ∷ 3 ∷ []) ∷ (4 ∷ 7 ∷ []) ∷ (8 ∷ 9 ∷ []) ∷ [])
+    ∷ case Shape (shape (after desk (drop (5 ∷ 6 ∷ []) ∷ []) P4)) (below ((1 ∷ 2 ∷ 3 ∷ []) ∷ (4 ∷ 7 ∷ []) ∷ (8 ∷ 9 ∷ []) ∷ []))
     -- an only leaf of an only interior: the root collapses twice
-    ∷ case (List (List ℕ)) (leaves (after desk (drop (2 ∷ []) ∷ []) (twoGroves ((1 ∷ []) ∷ []) ((2 ∷ []) ∷ [])))) ((1 ∷ []) ∷ [])
+    ∷ case Shape (shape (after desk (drop (2 ∷ []) ∷ []) (twoGroves ((1 ∷ []) ∷ []) ((2 ∷ []) ∷ [])))) (lone (1 ∷ []))
     -- setting an equal reference again is a change, so that a leaf below the minimum is joined
-    ∷ case (List (List ℕ)) (leaves (after broad (set (4 ∷ []) ∷ []) (grove ((1 ∷ 2 ∷ 3 ∷ []) ∷ (4 ∷ []) ∷ [])))) ((1 ∷ 2 ∷ 3 ∷ 4 ∷ []) ∷ [])
+    ∷ case Shape (shape (after broad (set (4 ∷ []) ∷ []) (grove ((1 ∷ 2 ∷ 3 ∷ []) ∷ (4 ∷ []) ∷ [])))) (lone (1 ∷ 2 ∷ 3 ∷ 4 ∷ []))
     -- joined in the middle of a batch, the walk goes on from the joint node
-    ∷ case (List (List ℕ)) (leaves (after broad (set (5 ∷ 6 ∷ []) ∷ []) (grove ((1 ∷ 2 ∷ 3 ∷ []) ∷ (4 ∷ []) ∷ [])))) ((1 ∷ 2 ∷ 3 ∷ 4 ∷ 5 ∷ 6 ∷ []) ∷ [])
+    ∷ case Shape (shape (after broad (set (5 ∷ 6 ∷ []) ∷ []) (grove ((1 ∷ 2 ∷ 3 ∷ []) ∷ (4 ∷ []) ∷ []))))
+    (lone (1 ∷ 2 ∷ 3 ∷ 4 ∷ 5 ∷ 6 ∷ []))
     -- a node beside siblings may stay below the minimum
-    ∷ case (List (List ℕ))
-    (leaves (after desk (drop (11 ∷ 12 ∷ 13 ∷ 14 ∷ []) ∷ []) (twoGroves ((1 ∷ 2 ∷ 3 ∷ []) ∷ (4 ∷ 5 ∷ []) ∷ (6 ∷ 7 ∷ 8 ∷ 9 ∷ []) ∷ []) ((10 ∷ 11 ∷ 12 ∷ []) ∷ (13 ∷ 14 ∷ []) ∷ []))))
-    ((1 ∷ 2 ∷ 3 ∷ []) ∷ (4 ∷ 5 ∷ []) ∷ (6 ∷ 7 ∷ 8 ∷ 9 ∷ []) ∷ (10 ∷ []) ∷ [])
+    ∷ case Shape
+    (shape (after desk (drop (11 ∷ 12 ∷ 13 ∷ 14 ∷ []) ∷ [])
+    (twoGroves ((1 ∷ 2 ∷ 3 ∷ []) ∷ (4 ∷ 5 ∷ []) ∷ (6 ∷ 7 ∷ 8 ∷ 9 ∷ []) ∷ []) ((10 ∷ 11 ∷ 12 ∷ []) ∷ (13 ∷ 14 ∷ []) ∷ []))))
+    (below ((1 ∷ 2 ∷ 3 ∷ []) ∷ (4 ∷ 5 ∷ []) ∷ (6 ∷ 7 ∷ 8 ∷ 9 ∷ []) ∷ (10 ∷ []) ∷ []))
     ∷ []
