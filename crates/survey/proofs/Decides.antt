@@ -30,9 +30,9 @@ use Rattle.tree.proofs.Sums.{totals-discrete}
 use Rattle.tree.proofs.Opening.{exact-shape}
 use Rattle.survey.specs.Surveyed.{Headed}
 use Rattle.survey.specs.Spared.{Idle}
-use Rattle.survey.specs.Checked.{unmet, Tail, Right, leastRoot, SoundTree}
+use Rattle.survey.specs.Checked.{Tail, Right, leastRoot, SoundTree}
 use Rattle.survey.proofs.Heads.{tail-told}
-use Rattle.survey.proofs.Verdicts.{unused-few, right-sound, sound-full, sound-right, sound-pool, pool-headed, pool-idle, pool-tree}
+use Rattle.survey.proofs.Verdicts.{unmet, unused-few, right-sound, sound-full, sound-right, sound-pool, pool-headed, pool-idle, pool-tree}
 
 -- OF DECISIONS
 

@@ -33,12 +33,15 @@ use Rattle.survey.specs.declared.Findings.{Findings}
 use Rattle.survey.specs.declared.walk.Part.{Part}
 use Rattle.survey.specs.Surveyed.{Surveyed, Headed, unsound}
 use Rattle.survey.specs.Spared.{Idle}
-use Rattle.survey.specs.Checked.{unmet, There, Tail, Right, Checked, leastRoot, SoundTree}
+use Rattle.survey.specs.Checked.{Last, last, There, Tail, Right, Checked, leastRoot, SoundTree}
 use Rattle.survey.proofs.Rows.{kinds-there}
 use Rattle.survey.proofs.Places.{hit-most, each-once}
 use Rattle.survey.proofs.Apart.{slots-once}
 
--- THE ROOT has its own least number of items
+-- THE ROOT: the walk has met no key yet, and the root has its own least number of items
+
+abbrev pub unmet : Last
+unmet = last false 0
 
 root-to : (st : Settings) (h : ℕ) (t : Tree h) → leastRoot h ≤ len t → len t ≤ st .order → Rooted st h t
 root-to st zero t some few = few

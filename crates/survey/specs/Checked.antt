@@ -1,7 +1,7 @@
 -- What the walk over a tree tests, node by node, and what it has found when it comes back from one. Assumes nothing.
 use Prim.Native.Nat.{ℕ, zero, suc, _+_, _-_, _≤_, _<_}
 use mathlib.Core.Path.{_≡_}
-use mathlib.Core.Bool.{Bool, true, false}
+use mathlib.Core.Bool.{Bool, true}
 use mathlib.Core.List.{List, [], _∷_}
 use lib.ListN.{length}
 use Rattle.slots.specs.declared.Row.{Row}
@@ -27,10 +27,6 @@ pub record Last : Type 0 where
 
 abbrev pub last : Bool → ℕ → Last
 last some key = record { some = some; key = key }
-
--- before the first entry
-abbrev pub unmet : Last
-unmet = last false 0
 
 -- after an entry, and after some
 abbrev pub met : Entry → Last
