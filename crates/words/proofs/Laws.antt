@@ -5,9 +5,9 @@ use Prim.Native.Nat.{ℕ, zero, suc, _+_, _*_, _/_, _%_, _^_, _≤_, _<_}
 use native.Mathlib.Nat.{le-of-suc-le-suc, not-suc-le-zero, zero-add, suc-add, pow-suc, pow-le-pow-right, lt-of-lt-of-le}
 use native.Mathlib.Omega.{arith}
 use mathlib.Core.List.{List, [], _∷_, _++_}
-use lib.ListN.{length, take, drop, getD, set, length-append, length-take, length-drop, take-append-drop}
-use lib.Seq.{drop-drop, take-append-le, drop-append-le, take-at, drop-at, length-take-le, set-split, drop-cons, sets, sets-eq, append-snoc, getD-drop}
-use Rattle.words.specs.Words.{word, wordsN, words, spell, bytesOf, Same}
+use lib.ListN.{length, take, drop, getD, set, length-set, length-append, length-take, length-drop, take-append-drop}
+use lib.Seq.{drop-drop, take-append-le, drop-append-le, take-at, drop-at, length-take-le, set-split, drop-cons, sets, sets-eq, append-snoc, getD-drop, drop-set-lt}
+use Rattle.words.specs.Words.{word, wordsN, words, behind, spell, bytesOf, Same}
 
 -- ---- how many words there are
 
@@ -34,11 +34,14 @@ words-count l m e = omega (arith, length-words l, length-words m)
 
 -- ---- what a loop over a pool keeps: the pool was l₀ where it began, and is l now
 
-pub same-next : (l₀ l : List ℕ) → length l ≡ length l₀ → Same l₀ l
-same-next l₀ l e = record { bytes = e; count = words-count l l₀ e; small = words-short l₀ }
+same-next : (l₀ l : List ℕ) → length l ≡ length l₀ → behind l ≡ behind l₀ → Same l₀ l
+same-next l₀ l e q = record { bytes = e; count = words-count l l₀ e; small = words-short l₀; rest = q }
 
 pub same-refl : (l : List ℕ) → Same l l
-same-refl l = same-next l l refl
+same-refl l = same-next l l refl refl
+
+pub same-then : {l₀ l m : List ℕ} → Same l₀ l → Same l m → Same l₀ m
+same-then {l₀} {l} {m} s t = same-next l₀ m (t .bytes ∙ s .bytes) (t .rest ∙ s .rest)
 
 -- ---- words and lists: a cut between two words of the bytes is a cut of the words
 
@@ -246,3 +249,25 @@ words-written l i p v h e hv =
     ∙ ap words (stores-sets (spell 8 v) l p 0 ∙ ap (λ (k : ℕ). sets l k (spell 8 v)) e′ ∙ sets-eq (spell 8 v) l (8 * i) (room l i h))
     ∙ ap (λ (k : ℕ). words (take (8 * i) l ++ spell 8 v ++ drop k l)) n
     ∙ words-set l i v h hv
+
+-- .. and keep the size and what is behind the words
+
+length-stores : (vs l : List ℕ) (p k : ℕ) → length (stores l p k vs) ≡ length l
+length-stores [] l p k = refl
+length-stores (v ∷ vs) l p k = length-stores vs (set l (p + k) v) p (k + 1) ∙ length-set l (p + k) v
+
+drop-stores : (n : ℕ) (vs l : List ℕ) (p k : ℕ) → p + k + length vs ≤ n → drop n (stores l p k vs) ≡ drop n l
+drop-stores n [] l p k h = refl
+drop-stores n (v ∷ vs) l p k h = drop-stores n vs (set l (p + k) v) p (k + 1) (omega arith) ∙ drop-set-lt n l (p + k) v (omega arith)
+
+pub same-written : (l : List ℕ) (i p v : ℕ) → i < length (words l) → p ≡ 8 * i → Same l (stores (set l p (v % 256)) p 1 (spell 7 (v / 256)))
+unfolding behind
+same-written l i p v h e =
+    let vs : List ℕ = spell 7 (v / 256) in
+    let m : List ℕ = stores (set l p (v % 256)) p 1 vs in
+    let n : ℕ = 8 * (length l / 8) in
+    let long : length m ≡ length l = length-stores vs (set l p (v % 256)) p 1 ∙ length-set l p (v % 256) in
+    let low : p + 1 + length vs ≤ n = omega (arith, length-spell 7 (v / 256), length-words l) in
+    let first : p < n = omega arith in
+    same-next l m long
+    (ap (λ (k : ℕ). drop (8 * (k / 8)) m) long ∙ drop-stores n vs (set l p (v % 256)) p 1 low ∙ drop-set-lt n l p (v % 256) first)

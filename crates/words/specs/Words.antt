@@ -18,6 +18,10 @@ wordsN (suc n) l = word (take 8 l) ∷ wordsN n (drop 8 l)
 unfoldable pub words : List ℕ → List ℕ
 words l = wordsN (length l / 8) l
 
+-- the bytes after the last whole one
+unfoldable pub behind : List ℕ → List ℕ
+behind l = drop (8 * (length l / 8)) l
+
 -- the other way: the n bytes that spell v, and the bytes of some words
 unfoldable pub spell : ℕ → ℕ → List ℕ
 spell zero v = []
@@ -27,8 +31,9 @@ unfoldable pub bytesOf : List ℕ → List ℕ
 bytesOf [] = []
 bytesOf (w ∷ ws) = spell 8 w ++ bytesOf ws
 
--- a pool that was l₀ and is l has kept its size; `small` is for a caller's sums of indices
+-- a pool that was l₀ and is l has kept its size, and the bytes behind its words; `small` is for a caller's sums of indices
 pub record Same (l₀ l : List ℕ) : Type 0 where
   pub bytes : length l ≡ length l₀
   pub count : length (words l) ≡ length (words l₀)
   pub small : length (words l₀) ≤ length l₀
+  pub rest : behind l ≡ behind l₀

@@ -2,7 +2,8 @@
 //
 // The caller lends the pool to each call. A contract says what becomes of `words`, the list of
 // numbers that the bytes spell, so that a caller never speaks of bytes. A function that writes also
-// says that the pool keeps its size (`Same`): what was an index before the call is one after it.
+// says that the pool keeps its size, so that what was an index before the call is one after it, and
+// the bytes behind its last whole word (`Same`).
 ghost use mathlib.Core.Path.{_≡_};
 ghost use Prim.Native.Nat.{_+_, _*_, _<_, _≤_};
 ghost use lib.ListN.{length, take, drop, getD, set};

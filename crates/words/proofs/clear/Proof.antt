@@ -6,7 +6,7 @@ use mathlib.Core.List.{List}
 use lib.ListN.{set}
 use Rattle.words.specs.Words.{words, Same}
 use Rattle.words.specs.Moves.{cleared}
-use Rattle.words.proofs.Laws.{same-refl, same-next}
+use Rattle.words.proofs.Laws.{same-refl, same-then}
 use Rattle.words.proofs.Runs.{cleared-none, cleared-more}
 use Rattle.words.proofs.clear.Statement.{statement}
 use Rattle.words.proofs.clear.Tie as tie
@@ -32,7 +32,7 @@ loop-again c =
         put .ensures .0
             ∙ ap (λ (l : List ℕ). set l (a .from + at .k) 0) (at .inv .1 .0)
             ∙ cleared-more (words (a .pool .now)) (a .from) (at .k) (omega arith),
-        same-next (a .pool .now) (put .last .0) (put .kept .0 ∙ at .inv .1 .1 .bytes),
+        same-then (at .inv .1 .1) (put .ensures .1),
       ),
     )
 

@@ -6,7 +6,7 @@ use mathlib.Core.List.{List}
 use lib.ListN.{getD, set}
 use Rattle.words.specs.Words.{words, Same}
 use Rattle.words.specs.Moves.{moved}
-use Rattle.words.proofs.Laws.{same-refl, same-next}
+use Rattle.words.proofs.Laws.{same-refl, same-then}
 use Rattle.words.proofs.Runs.{moved-none, moved-more}
 use Rattle.words.proofs.move_down.Statement.{statement}
 use Rattle.words.proofs.move_down.Tie as tie
@@ -35,7 +35,7 @@ loop-again c =
             ∙ ap (λ (x : ℕ). set (words (at .pool)) (a .to + at .k) x) (got .ensures)
             ∙ ap (λ (l : List ℕ). set l (a .to + at .k) (getD l (a .from + at .k) 0)) (at .inv .1 .0)
             ∙ moved-more (words (a .pool .now)) (a .from) (a .to) (at .k) (start .pre .0) (omega arith),
-        same-next (a .pool .now) (put .last .0) (put .kept .0 ∙ at .inv .1 .1 .bytes),
+        same-then (at .inv .1 .1) (put .ensures .1),
       ),
     )
 

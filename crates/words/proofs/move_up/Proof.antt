@@ -5,7 +5,7 @@ use native.Mathlib.Omega.{arith}
 use mathlib.Core.List.{List}
 use lib.ListN.{getD, set}
 use Rattle.words.specs.Words.{words, Same}
-use Rattle.words.proofs.Laws.{same-refl, same-next}
+use Rattle.words.proofs.Laws.{same-refl, same-then}
 use Rattle.words.proofs.Runs.{movedFrom, from-none, from-more, from-all}
 use Rattle.words.proofs.move_up.Statement.{statement}
 use Rattle.words.proofs.move_up.Tie as tie
@@ -34,7 +34,7 @@ loop-again c =
             ∙ ap (λ (x : ℕ). set (words (at .pool)) (a .to + (at .k - 1)) x) (got .ensures)
             ∙ ap (λ (l : List ℕ). set l (a .to + (at .k - 1)) (getD l (a .from + (at .k - 1)) 0)) (at .inv .1 .0)
             ∙ from-more (words (a .pool .now)) (a .from) (a .to) (a .n) (at .k) (start .pre .0) (start .pre .1) (omega arith) (omega arith),
-        same-next (a .pool .now) (put .last .0) (put .kept .0 ∙ at .inv .1 .1 .bytes),
+        same-then (at .inv .1 .1) (put .ensures .1),
       ),
     )
 

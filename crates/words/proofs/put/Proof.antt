@@ -1,9 +1,9 @@
--- `put` meets its contract: the eight bytes that it stores spell `v`, and no other word changes (`words-written`). Assumes nothing.
+-- `put` meets its contract: the eight bytes that it stores spell `v`, and no other byte changes (`words-written`, `same-written`). Assumes nothing.
 use native.Mathlib.Omega.{arith}
 use lib.ListN.{length-set}
 use borrow.Author.Needs.{needs}
 use Rattle.words.specs.Words.{spell}
-use Rattle.words.proofs.Laws.{words-written, same-next}
+use Rattle.words.proofs.Laws.{words-written, same-written}
 use Rattle.words.proofs.put.Statement.{statement}
 use Rattle.words.proofs.put.Tie as tie
 
@@ -12,7 +12,7 @@ unfolding spell
 returns c =
     let start = c .before .before .before in (
       words-written (start .args .pool .now) (start .args .i) (c .place .result) (start .args .v) (start .pre) (c .place .ensures .0) (start .fits .v .fits),
-      same-next (start .args .pool .now) _ (simp length-set),
+      same-written (start .args .pool .now) (start .args .i) (c .place .result) (start .args .v) (start .pre) (c .place .ensures .0),
     )
 
 -- for each byte: its value fits, its index is no sum that wraps, and stands within the pool, whose length the stores before it keep
