@@ -2,10 +2,17 @@
 //
 // Each of these takes any index: past the end a read answers 0 and a write does nothing. So a program that tries the index owes no proof of
 // where it reads, and what it read amiss it would find as a difference.
+ghost use mathlib.Core.Path.{_≡_};
+ghost use Prim.Native.Nat.{_+_, _%_, _^_};
+ghost use lib.ListN.{getD, set};
+ghost use Rattle.words.specs.Words.{words, Same};
+ghost use Rattle.trial.specs.Numbers.{product, following};
 use libc::STDOUT_FILENO;
 
 // The 64-bit word `i` of a pool.
-pub fn word(pool: &[u8], i: usize) -> u64 {
+pub fn word(pool: &[u8], i: usize) -> u64
+    ensures { λ r. ⌜ r ≡ getD (words (now (pool .entry))) i 0 ⌝ }
+{
     if i < pool.len() / 8 {
         words::get(pool, i)
     } else {
@@ -14,48 +21,67 @@ pub fn word(pool: &[u8], i: usize) -> u64 {
 }
 
 // Sets the word `i` of a pool.
-pub fn put_word(pool: &mut [u8], i: usize, v: u64) {
+pub fn put_word(pool: &mut [u8], i: usize, v: u64)
+    ensures { λ _. ⌜ words (now (pool .exit)) ≡ set (words (now (pool .entry))) i v ⌝ }
+    ensures { λ _. ⌜ Same (now (pool .entry)) (now (pool .exit)) ⌝ }
+{
     if i < pool.len() / 8 {
         words::put(pool, i, v);
     }
 }
 
-pub fn at(s: &[u64], i: usize) -> u64 {
+pub fn at(s: &[u64], i: usize) -> u64
+    ensures { λ r. ⌜ r ≡ getD (now (s .entry)) i 0 ⌝ }
+{
     if i < s.len() { s[i] } else { 0 }
 }
 
-pub fn put(s: &mut [u64], i: usize, v: u64) {
+pub fn put(s: &mut [u64], i: usize, v: u64)
+    ensures { λ _. ⌜ now (s .exit) ≡ set (now (s .entry)) i v ⌝ }
+{
     if i < s.len() {
         s[i] = v;
     }
 }
 
-pub fn size_at(s: &[u32], i: usize) -> u32 {
+pub fn size_at(s: &[u32], i: usize) -> u32
+    ensures { λ r. ⌜ r ≡ getD (now (s .entry)) i 0 ⌝ }
+{
     if i < s.len() { s[i] } else { 0 }
 }
 
-pub fn put_size(s: &mut [u32], i: usize, v: u32) {
+pub fn put_size(s: &mut [u32], i: usize, v: u32)
+    ensures { λ _. ⌜ now (s .exit) ≡ set (now (s .entry)) i v ⌝ }
+{
     if i < s.len() {
         s[i] = v;
     }
 }
 
-pub fn byte_at(s: &[u8], i: usize) -> u8 {
+pub fn byte_at(s: &[u8], i: usize) -> u8
+    ensures { λ r. ⌜ r ≡ getD (now (s .entry)) i 0 ⌝ }
+{
     if i < s.len() { s[i] } else { 0 }
 }
 
-// The sum, where it fits.
-pub fn plus(a: usize, b: usize) -> usize {
+// The sum, where it fits; else what is left of it.
+pub fn plus(a: usize, b: usize) -> usize
+    ensures { λ r. ⌜ r ≡ (a + b) % 2 ^ 64 ⌝ }
+{
     std::num::wrapping_add_usize(a, b)
 }
 
-// The difference, where it is not negative.
-pub fn minus(a: usize, b: usize) -> usize {
+// The difference, where it is not negative; else the number to which `b` adds up to `a` by wrapping.
+pub fn minus(a: usize, b: usize) -> usize
+    ensures { λ r. ⌜ (r + b) % 2 ^ 64 ≡ a ⌝ }
+{
     std::num::wrapping_sub_usize(a, b)
 }
 
 // The product of numbers below 65,536; of greater ones it is 0.
-pub fn times(a: usize, b: usize) -> usize {
+pub fn times(a: usize, b: usize) -> usize
+    ensures { λ r. ⌜ r ≡ product a b ⌝ }
+{
     if a > 65535 {
         return 0;
     }
@@ -66,13 +92,15 @@ pub fn times(a: usize, b: usize) -> usize {
 }
 
 // The next of a row of pseudo-random numbers (xorshift).
-pub fn next(x: u64) -> u64 {
+pub fn next(x: u64) -> u64
+    ensures { λ r. ⌜ r ≡ following x ⌝ }
+{
     let a = x ^ (x << 13);
     let b = a ^ (a >> 7);
     b ^ (b << 17)
 }
 
-// Writes a text.
+// Writes a text. (What a program writes is in no contract: `io::write_all` promises nothing of it.)
 pub fn say(text: &[u8]) {
     io::write_all(STDOUT_FILENO, text);
 }

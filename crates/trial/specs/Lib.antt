@@ -1,0 +1,2 @@
+-- `Numbers` says what the functions on numbers give.
+pub mod Numbers
