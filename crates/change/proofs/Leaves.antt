@@ -6,10 +6,11 @@ use mathlib.Core.List.{List, [], _∷_, map}
 use Prim.Native.Nat.{ℕ, zero, _<_, max}
 use native.Mathlib.Omega.{arith}
 use native.Mathlib.Decide.{ℕ-discrete}
-use lib.ListN.{length, drop, length-map}
+use lib.ListN.{length, drop, length-map, length-set}
 use Rattle.slots.specs.declared.Row.{Row}
 use Rattle.slots.specs.Nodes.{nodes, nth, unused, rowsAt, putRows}
 use Rattle.slots.specs.Nodes as S
+use Rattle.slots.specs.Search.{Lowest}
 use Rattle.slots.proofs.Nodes.{length-nodes, nth-rows, nth-put}
 use Rattle.model.specs.declared.Settings.{Settings}
 use Rattle.model.specs.declared.Counts.{Counts}
@@ -29,7 +30,7 @@ use Rattle.tree.specs.Bridge.{entryOf, entryRow, nodeFor, cellsOf, Stands, tree
 use Rattle.tree.proofs.Unused.{used-in}
 use Rattle.settle.proofs.Parents.{unused-rows}
 use Rattle.settle.specs.declared.ChangeResult.{ChangeResult}
-use Rattle.settle.specs.Settle.{resultIs, Low}
+use Rattle.settle.specs.Settle.{resultIs}
 use Rattle.change.specs.Calls.{runOf, Call, Came}
 
 -- a slot in use is one of the pool's
@@ -51,8 +52,17 @@ module _ (ns : List S.Node) (s : ℕ) (l : List Row) (inside : s < length ns) wh
       let e₀ : nth ns x .kind ≡ 0 = sym (kind-rows x) ∙ e in
       nth-rows ns x s l (λ q. used (sym (ap (λ (y : ℕ). nth ns y .kind) q) ∙ e₀)) ∙ b x e₀
 
-  pub low-rows : {st : Settings} {low : ℕ} → Low st ns low → Low st (putRows ns s l) low
-  low-rows w = record { within = w .within; below = λ t h e. w .below t h (sym (kind-rows t) ∙ e) }
+  long-rows : length (putRows ns s l) ≡ length ns
+  unfolding putRows
+  long-rows = length-set ns s (record { kind = nth ns s .kind; rows = l })
+
+  pub low-rows : {low : ℕ} → Lowest ns low → Lowest (putRows ns s l) low
+  low-rows {low} w =
+      record {
+        within = omega (arith, w .within, long-rows);
+        before = λ t h e. w .before t h (sym (kind-rows t) ∙ e);
+        here = λ h. kind-rows low ∙ w .here (omega (arith, long-rows));
+      }
 
 -- THE LEAF
 
@@ -125,5 +135,5 @@ module _ {st : Settings} {W : List ℕ} {s : ℕ} {op : Operation} {ps zs ks : L
             counts = took .counts ∙ ap (λ (x : Walked Entry). x .run .counts) alike;
           };
           batch = record { lent = call .batch .lent; short = call .batch .short; within = took .within; few = took .few };
-          lowest = subst (λ (ms : List S.Node). Low st ms low) (sym (took .did .is)) (low-rows ns s rows inside (call .asked .lowest));
+          lowest = subst (λ (ms : List S.Node). Lowest ms low) (sym (took .did .is)) (low-rows ns s rows inside (call .asked .lowest));
         }

@@ -12,6 +12,7 @@ use Rattle.slots.specs.declared.Row.{Row}
 use Rattle.slots.specs.Slots.{blank}
 use Rattle.slots.specs.Nodes.{Held, At, nodes, rowsAt}
 use Rattle.slots.specs.Nodes as S
+use Rattle.slots.specs.Search.{Lowest}
 use Rattle.model.specs.declared.Settings.{Settings}
 use Rattle.model.specs.declared.Counts.{Counts}
 use Rattle.model.specs.declared.Operation.{Operation}
@@ -31,7 +32,7 @@ use Rattle.tree.specs.Bridge.{childOf, rowFor, Holds, treeAt, unusedOf}
 use Rattle.tree.proofs.ReadOff.{Light, Lights, child-slot, held-tree, kids-read}
 use Rattle.settle.specs.declared.ChangeResult.{ChangeResult}
 use Rattle.settle.specs.declared.Standing.{Standing}
-use Rattle.settle.specs.Settle.{resultIs, Low, kidsAt, childAt, beforeAt, afterAt, Loose, Pend, Pending, Settled, Ended, Done}
+use Rattle.settle.specs.Settle.{resultIs, kidsAt, childAt, beforeAt, afterAt, Loose, Pend, Pending, Settled, Ended, Done}
 use Rattle.settle.proofs.Zips.{drop-turned, getD-turned, map-turned}
 use Rattle.settle.proofs.Places.{before-is, child-is, after-is}
 use Rattle.change.specs.declared.Reply.{Reply}
@@ -50,7 +51,7 @@ pub record Roaming (st : Settings) (W₀ W : List ℕ) (h s : ℕ) (op : Operati
   pub held : Held st W
   pub header : take 4 W ≡ take 4 W₀
   pub batch : Batch op ps zs ks next c
-  pub lowest : Low st (nodes st W) low
+  pub lowest : Lowest (nodes st W) low
   pub before : List (Tree h)
   pub rest : List (Tree h)
   pub turns : ℕ

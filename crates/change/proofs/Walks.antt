@@ -8,6 +8,7 @@ use native.Mathlib.Nat.{not-suc-le-zero}
 use lib.ListN.{length, length-append, length-reverseAux}
 use borrow.Author.Tests.{le-leb, lt-leb}
 use Rattle.slots.specs.Nodes as S
+use Rattle.slots.specs.Search.{Lowest}
 use Rattle.model.specs.declared.Settings.{Settings}
 use Rattle.model.specs.declared.Counts.{Counts}
 use Rattle.model.specs.Lists.{times, All}
@@ -23,7 +24,7 @@ use Rattle.model.proofs.Trees.{flat-three, flat-joined}
 use Rattle.model.proofs.Settles.{itemsOf, settles}
 use Rattle.model.proofs.Changes.{child-enough, Owes, Ranged, Passed, Sought, Turned, did-left, stocked-ready, ceiling-due, one-left, outcome, chosen-law, chosen-given, owing, turning, first-ranged, none-passed, change-law}
 use Rattle.tree.specs.Bridge.{Holds, unusedOf, Apart}
-use Rattle.settle.specs.Settle.{Low, inner, Loose, Settled}
+use Rattle.settle.specs.Settle.{inner, Loose, Settled}
 use Rattle.change.specs.Calls.{runOf, Asked, Answers}
 use Rattle.change.proofs.Seeks.{seek-turned}
 use Rattle.change.proofs.Strolls.{Among, Strolling, apart-kept, child-holds, child-apart, loosened, strolled-on}
@@ -120,7 +121,7 @@ module _ {st : Settings} {h s ceiling : ℕ} {ns₀ : List S.Node} {t₀ : Tree 
       all-left (flat h (spot .child .items)) (flat h (joined (spot .after)))
       (all-right (flat h (back (spot .before))) _ (subst (All Fits) (sym three) (w .fit)))
 
-  pub asked : {low : ℕ} → Low st ns low → Asked st h reach low ns (spot .child) (t ∷ ts)
+  pub asked : {low : ℕ} → Lowest ns low → Asked st h reach low ns (spot .child) (t ∷ ts)
   asked low =
       record {
         holds = child-holds among;

@@ -5,6 +5,7 @@ use mathlib.Core.List.{List}
 use lib.ListN.{length, take, drop}
 use Rattle.slots.specs.Nodes.{Held, nodes}
 use Rattle.slots.specs.Nodes as S
+use Rattle.slots.specs.Search.{Lowest}
 use Rattle.model.specs.declared.Settings.{Settings}
 use Rattle.model.specs.declared.Counts.{Counts}
 use Rattle.model.specs.declared.Operation.{Operation}
@@ -16,7 +17,7 @@ use Rattle.model.specs.Sound.{Fits}
 use Rattle.model.specs.Contracts.{flat, Due, Grants, Given, Ready, Enough}
 use Rattle.leaf.specs.Leaf.{Batch, tasksOf}
 use Rattle.tree.specs.Bridge.{treeAt, unusedOf, Holds, Blank, Apart, Frame}
-use Rattle.settle.specs.Settle.{resultIs, Low}
+use Rattle.settle.specs.Settle.{resultIs}
 use Rattle.change.specs.declared.Reply.{Reply}
 
 -- what a batch carries beside its tasks
@@ -37,7 +38,7 @@ pub record Asked (st : Settings) (h ceiling low : ℕ) (ns : List S.Node) (t : T
   -- what the tasks set fits its places too
   pub sets : All (Grants Fits) ts
   pub empty : Blank ns
-  pub lowest : Low st ns low
+  pub lowest : Lowest ns low
 
 pub record Call (st : Settings) (W : List ℕ) (h s : ℕ) (op : Operation) (ps zs ks : List ℕ) (at ceiling : ℕ) (c : Counts) (low : ℕ) : Type 0 where
   pub held : Held st W
@@ -61,4 +62,4 @@ pub record Came (st : Settings) (W W′ : List ℕ) (h s : ℕ) (op : Operation)
       (change st h ceiling (treeAt (nodes st W) h s) (drop at (tasksOf op ps zs ks)) (runOf (nodes st W) c))
       (drop (r .next) (tasksOf op ps zs ks)) (resultIs (r .result)) (r .counts)
   pub batch : Batch op ps zs ks (r .next) (r .counts)
-  pub lowest : Low st (nodes st W′) (r .low)
+  pub lowest : Lowest (nodes st W′) (r .low)

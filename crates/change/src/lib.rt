@@ -18,7 +18,7 @@ use walk::result_of;
 use walk::roams_on;
 use walk::seek_child;
 
-// How far a batch has come, what became of the node, and a slot below which none is unused.
+// How far a batch has come, what became of the node, and the lowest unused slot, or the number of slots where there is none.
 pub struct Reply {
     pub next: usize,
     pub result: ChangeResult,

@@ -11,7 +11,6 @@ use Rattle.words.specs.Words.{words}
 use Rattle.words.proofs.Laws.{Bytes}
 use Rattle.slots.specs.Header.{settingsOf}
 use Rattle.slots.specs.Nodes.{nodes}
-use Rattle.slots.proofs.Nodes.{length-nodes}
 use Rattle.model.specs.declared.Settings.{Settings}
 use Rattle.model.specs.declared.Counts.{Counts}
 use Rattle.model.specs.Tree.{Index}
@@ -26,7 +25,6 @@ use Rattle.tree.specs.Pool.{SoundPool, settingsIn, nodesIn, indexOf, imageOf}
 use Rattle.tree.proofs.Pools.{sound-held, sound-index, sound-header, sound-holds-index, held-bytes}
 use Rattle.survey.specs.declared.Findings.{Findings}
 use Rattle.survey.specs.Surveyed.{Surveyed}
-use Rattle.settle.specs.Settle.{Low}
 use Rattle.root.specs.Batch.{indexAt, Accepted, Changed}
 use Rattle.index.specs.declared.BatchAnswer.the-variants as Batch
 use Rattle.index.specs.Promise.{holds, fails, Left, _leaving_, leaves, Batches}
@@ -67,7 +65,7 @@ module _ (c : Call) (l : List ℕ) where
             held = sound-held l s;
             holds = rw same (sound-holds-index l s);
             sound = rw same (sound-index l s);
-            lowest = record { within = omega (arith, v .low e .within, length-nodes (settingsIn l) (words l)); below = v .low e .before };
+            lowest = v .low e;
             lent = lent;
             accepted = rw same passed;
           }

@@ -16,7 +16,7 @@ use Rattle.tree.specs.Bridge.{treeAt, unusedOf}
 use Rattle.tree.specs.Sums.{Sums}
 use Rattle.tree.proofs.SoundHolds.{slot-read}
 use Rattle.settle.proofs.Places.{node-used}
-use Rattle.root.specs.Roots.{Splits, Halved, Moves, moved, Moved, Crowns, crowned}
+use Rattle.root.specs.Roots.{Splits, Halved, Moves, moved, Crowns, crowned}
 use Rattle.root.proofs.Indexes.{pool-lowest, now-holds}
 use Rattle.root.proofs.Halves as H
 
@@ -37,7 +37,13 @@ module _ {st : Settings} {W₀ : List ℕ} {h low : ℕ} (pre : Splits st W₀ h
         some = omega (arith, pre .two);
       }
 
-  module _ {W₁ : List ℕ} {a : ℕ} (mv : Moved st W₀ W₁ a) where
+  abbrev a : ℕ
+  a = low
+
+  pub a-nodes : low < st .nodes
+  a-nodes = pool-lowest st W₀ low (pre .lowest) (omega (arith, pre .two))
+
+  module _ {W₁ : List ℕ} (mv : Now st W₀ W₁ (moved (nodes st W₀) low)) where
     top : H.Top ns h t a
     top =
         record {
@@ -46,59 +52,61 @@ module _ {st : Settings} {W₀ : List ℕ} {h low : ℕ} (pre : Splits st W₀ h
           apart = pre .keeps .apart;
           bounded = record { small = pre .keeps .small; fit = pre .keeps .fit };
           empty = pre .keeps .holds .blank;
-          first = mv .slot;
-          inside = omega (arith, length-nodes st W₀, mv .inside);
+          first = pre .lowest;
+          inside = omega (arith, length-nodes st W₀, a-nodes);
         }
 
     pub below-lower : Below (nodes st W₁) a
-    below-lower = subst (λ (z : List S.Node). Below z a) (sym (mv .did .is)) (H.moved-below top)
+    below-lower = subst (λ (z : List S.Node). Below z a) (sym (mv .is)) (H.moved-below top)
 
     module _ {b : ℕ} (lo : Lowest (nodes st W₁) b) where
-      b-nodes : b < st .nodes
+      pub b-nodes : b < st .nodes
       b-nodes =
           pool-lowest st W₁ b lo
-          (omega (arith, ap (λ (z : List S.Node). length (unusedOf z)) (mv .did .is), ap length (H.moved-unused top), length-others (unusedOf ns), pre .two))
+          (omega (arith, ap (λ (z : List S.Node). length (unusedOf z)) (mv .is), ap length (H.moved-unused top), length-others (unusedOf ns), pre .two))
 
       second : Lowest (moved ns a) b
-      second = subst (λ (z : List S.Node). Lowest z b) (mv .did .is) lo
+      second = subst (λ (z : List S.Node). Lowest z b) (mv .is) lo
 
       b-in : b < length (moved ns a)
-      b-in = omega (arith, length-nodes st W₁, ap length (mv .did .is), b-nodes)
+      b-in = omega (arith, length-nodes st W₁, ap length (mv .is), b-nodes)
 
       pub to-split : S.Split st W₁ a b
       to-split =
           record {
-            held = mv .did .held;
-            slot = mv .inside;
+            held = mv .held;
+            slot = a-nodes;
             slot2 = b-nodes;
             apart = H.a-b top second b-in;
-            free = ap (λ (z : List S.Node). nth z b) (mv .did .is) ∙ H.b-unused top second b-in;
+            free = ap (λ (z : List S.Node). nth z b) (mv .is) ∙ H.b-unused top second b-in;
           }
 
       module _ {W₂ : List ℕ} (sp : Now st W₁ W₂ (splitNodes (nodes st W₁) a b)) where
         split-is : nodes st W₂ ≡ splitNodes (moved ns a) a b
-        split-is = sp .is ∙ ap (λ (z : List S.Node). splitNodes z a b) (mv .did .is)
+        split-is = sp .is ∙ ap (λ (z : List S.Node). splitNodes z a b) (mv .is)
 
         pub to-crown : Crowns st W₂ h a b
         to-crown =
             record {
               held = sp .held;
-              slot = mv .inside;
+              slot = a-nodes;
               slot2 = b-nodes;
               sums = subst (λ (z : List S.Node). Sums h (nth z a .rows)) (sym split-is) (H.lower-sums top second b-in);
               sums2 = subst (λ (z : List S.Node). Sums h (nth z b .rows)) (sym split-is) (H.upper-sums top second b-in);
               bare = ap (λ (z : List S.Node). nth z 0 .rows) split-is ∙ H.split-bare top second b-in;
             }
 
-        pub split-done : {W₃ : List ℕ} → Now st W₂ W₃ (crowned (nodes st W₂) h a b) → Halved st W₀ W₃ h b
-        split-done {W₃} cr =
-            let is : nodes st W₃ ≡ H.above top second b-in =
-            cr .is ∙ ap (λ (z : List S.Node). crowned z h a b) split-is ∙ H.crowned-is top second b-in in
-            record {
-              becomes = now-holds st W₀ W₃ (H.above top second b-in) _ (record { held = cr .held; is = is; header = cr .header ∙ sp .header ∙ mv .did .header })
-                  (H.above-holds top second b-in);
-              lowest = record {
-                within = omega (arith, b-nodes);
-                below = subst (λ (z : List S.Node). Below z b) (sym is) (H.above-below top second b-in);
-              };
-            }
+        module _ {W₃ : List ℕ} (cr : Now st W₂ W₃ (crowned (nodes st W₂) h a b)) where
+          crown-is : nodes st W₃ ≡ H.above top second b-in
+          crown-is = cr .is ∙ ap (λ (z : List S.Node). crowned z h a b) split-is ∙ H.crowned-is top second b-in
+
+          pub below-upper : Below (nodes st W₃) b
+          below-upper = subst (λ (z : List S.Node). Below z b) (sym crown-is) (H.above-below top second b-in)
+
+          pub split-done : {r : ℕ} → Lowest (nodes st W₃) r → Halved st W₀ W₃ h r
+          split-done l =
+              record {
+                becomes = now-holds st W₀ W₃ (H.above top second b-in) _ (record { held = cr .held; is = crown-is; header = cr .header ∙ sp .header ∙ mv .header })
+                    (H.above-holds top second b-in);
+                lowest = l;
+              }

@@ -9,6 +9,7 @@ use lib.ListN.{length, take, drop, length-map, length-drop}
 use borrow.Author.Tests.{eqb-true, not-false}
 use Rattle.slots.specs.Nodes.{Held, nodes}
 use Rattle.slots.specs.Nodes as S
+use Rattle.slots.specs.Search.{Lowest}
 use Rattle.model.specs.declared.Counts.{Counts}
 use Rattle.model.specs.declared.Operation.{Operation}
 use Rattle.model.specs.declared.Operation.the-variants as Op
@@ -25,7 +26,7 @@ use Rattle.model.proofs.Demands.{sound-fine}
 use Rattle.leaf.specs.Leaf.{Batch, Lent, tasksOf}
 use Rattle.tree.specs.Bridge.{treeAt, unusedOf, HoldsIndex}
 use Rattle.tree.proofs.Few.{entries-most}
-use Rattle.settle.specs.Settle.{resultIs, Low}
+use Rattle.settle.specs.Settle.{resultIs}
 use Rattle.change.specs.declared.Reply.{Reply}
 use Rattle.change.specs.Calls.{runOf, Asked, Call, Answers, Came}
 use Rattle.root.specs.declared.Root.{Root}
@@ -43,7 +44,7 @@ pub record Running (st : Settings) (W₀ : List ℕ) (h₀ : ℕ) (op : Operatio
   pub held : Held st W
   pub header : take 4 W ≡ take 4 W₀
   pub holds : HoldsIndex (nodes st W) (indexAt (nodes st W) h)
-  pub lowest : Low st (nodes st W) low
+  pub lowest : Lowest (nodes st W) low
   pub long : length (tasksOf op ps zs ks) ≡ length ks
   pub batch : Batch op ps zs ks at c
   pub going : Going st (indexAt (nodes st W) h) (drop at (tasksOf op ps zs ks))

@@ -5,6 +5,7 @@ use mathlib.Core.List.{List}
 use lib.ListN.{take}
 use Rattle.slots.specs.Nodes.{Held, nodes}
 use Rattle.slots.specs.Nodes as S
+use Rattle.slots.specs.Search.{Lowest}
 use Rattle.model.specs.declared.Settings.{Settings}
 use Rattle.model.specs.declared.Counts.{Counts}
 use Rattle.model.specs.Tree.{Index}
@@ -13,7 +14,6 @@ use Rattle.model.specs.Refuse.{Call, tasksOf, refusal}
 use Rattle.model.specs.Sound.{Sound}
 use Rattle.model.specs.Demands.{Lent}
 use Rattle.tree.specs.Bridge.{treeAt, unusedOf, HoldsIndex}
-use Rattle.settle.specs.Settle.{Low}
 
 -- the index of height h that the nodes hold, with its root in slot 0
 abbrev pub indexAt : List S.Node → ℕ → Index
@@ -24,7 +24,7 @@ pub record Accepted (st : Settings) (W : List ℕ) (h low : ℕ) (c : Call) : Ty
   pub held : Held st W
   pub holds : HoldsIndex (nodes st W) (indexAt (nodes st W) h)
   pub sound : Sound st (indexAt (nodes st W) h)
-  pub lowest : Low st (nodes st W) low
+  pub lowest : Lowest (nodes st W) low
   pub lent : Lent c
   pub accepted : refusal st c (indexAt (nodes st W) h) ≡ 0
 

@@ -14,7 +14,7 @@ use Rattle.model.specs.Change.{Split, Remove, splitRoot, settleRoot, collapse}
 use Rattle.model.specs.Sound.{Fits}
 use Rattle.tree.specs.Bridge.{treeAt, unusedOf, Blank, HoldsIndex, Apart}
 use Rattle.settle.specs.declared.ChangeResult.{ChangeResult}
-use Rattle.settle.specs.Settle.{resultIs, Low, childAt}
+use Rattle.settle.specs.Settle.{resultIs, childAt}
 use Rattle.tree.specs.Sums.{Sums}
 use Rattle.settle.specs.Weigh.{rowOver}
 use Rattle.root.specs.declared.Root.{Root}
@@ -40,29 +40,24 @@ pub record Becomes (st : Settings) (W W′ : List ℕ) (x : Index) : Type 0 wher
 
 pub record Splits (st : Settings) (W : List ℕ) (h low : ℕ) : Type 0 where
   pub keeps : Keeps st W (indexAt (nodes st W) h)
-  pub lowest : Low st (nodes st W) low
+  pub lowest : Lowest (nodes st W) low
   -- one slot for each half
   pub two : 2 ≤ length (unusedOf (nodes st W))
 
 pub record Halved (st : Settings) (W W′ : List ℕ) (h r : ℕ) : Type 0 where
   pub becomes : Becomes st W W′ (splitRoot h (treeAt (nodes st W) h 0) (unusedOf (nodes st W)))
-  pub lowest : Low st (nodes st W′) r
+  pub lowest : Lowest (nodes st W′) r
 
 -- its rows go to a new node of its kind, in the lowest unused slot ..
 pub record Moves (st : Settings) (W : List ℕ) (low : ℕ) : Type 0 where
   pub held : Held st W
   pub empty : Blank (nodes st W)
-  pub lowest : Low st (nodes st W) low
+  pub lowest : Lowest (nodes st W) low
   pub used : nth (nodes st W) 0 .kind ≢ 0
   pub some : 0 < length (unusedOf (nodes st W))
 
 abbrev pub moved : List S.Node → ℕ → List S.Node
 moved ns new = put2 ns new (nth ns 0) 0 (withRows (nth ns 0) [])
-
-pub record Moved (st : Settings) (W W′ : List ℕ) (r : ℕ) : Type 0 where
-  pub slot : Lowest (nodes st W) r
-  pub inside : r < st .nodes
-  pub did : Now st W W′ (moved (nodes st W) r)
 
 -- .. and it becomes the parent of that node and another, of height h
 pub record Crowns (st : Settings) (W : List ℕ) (h lower upper : ℕ) : Type 0 where
@@ -80,7 +75,7 @@ crowned ns h lower upper = set ns 0 (record { kind = 2; rows = rowOver h lower (
 
 pub record Returned (st : Settings) (W : List ℕ) (h low : ℕ) (v : ChangeResult) : Type 0 where
   pub keeps : Keeps st W (indexAt (nodes st W) h)
-  pub lowest : Low st (nodes st W) low
+  pub lowest : Lowest (nodes st W) low
   -- a split takes a slot for each half
   pub two : resultIs v ≡ Split → 2 ≤ length (unusedOf (nodes st W))
   pub gone : resultIs v ≡ Remove → treeAt (nodes st W) h 0 .items ≡ []
@@ -90,7 +85,7 @@ pub record Returned (st : Settings) (W : List ℕ) (h low : ℕ) (v : ChangeResu
 pub record RootSettled (st : Settings) (W W′ : List ℕ) (x : Index) (r : Root) : Type 0 where
   pub becomes : Becomes st W W′ x
   pub height : r .height ≡ x .height
-  pub lowest : Low st (nodes st W′) (r .low)
+  pub lowest : Lowest (nodes st W′) (r .low)
 
 abbrev pub SettledRoot : Settings → List ℕ → List ℕ → ℕ → ChangeResult → Root → Type 0
 SettledRoot st W W′ h v r = RootSettled st W W′ (settleRoot (resultIs v) h (treeAt (nodes st W) h 0) (unusedOf (nodes st W))) r

@@ -1,35 +1,33 @@
 // A root that is too long becomes the parent of its two halves, which take new slots. So the root stays in slot 0.
 ghost use Rattle.words.specs.Words.{words};
 ghost use Rattle.slots.specs.Nodes.{Now, nodes};
-ghost use Rattle.root.specs.Roots.{Splits, Halved, Moves, Moved, Crowns, crowned};
+ghost use Rattle.root.specs.Roots.{Splits, Halved, Moves, moved, Crowns, crowned};
 use model::Settings;
 use settle::weigh::weigh;
 use slots::INTERIOR;
 
-// Splits the root: the lower half takes the lowest unused slot, the upper half the next. The answer is a slot below which none is unused.
-// (The Rust's `split_root`.)
+// Splits the root: the lower half takes the lowest unused slot, the upper half the next. The answer is the lowest one then. (The Rust's
+// `split_root`.)
 pub fn split_root(pool: &mut [u8], st: Settings, height: usize, low: usize) -> usize
     requires { ⌜ Splits st (words (now pool)) height low ⌝ }
     ensures { λ r. ⌜ Halved st (words (now (pool .entry))) (words (now (pool .exit))) height r ⌝ }
 {
-    let lower = move_root(pool, st, low);
-    let upper = slots::lowest_unused(pool, st, lower);
-    slots::split(pool, st, lower, upper);
-    crown(pool, st, height, lower, upper);
-    upper
+    move_root(pool, st, low);
+    let upper = slots::lowest_unused(pool, st, low);
+    slots::split(pool, st, low, upper);
+    crown(pool, st, height, low, upper);
+    slots::lowest_unused(pool, st, upper)
 }
 
 // Moves the rows of the root to a new node of its kind, in the lowest unused slot.
-fn move_root(pool: &mut [u8], st: Settings, low: usize) -> usize
+fn move_root(pool: &mut [u8], st: Settings, low: usize)
     requires { ⌜ Moves st (words (now pool)) low ⌝ }
-    ensures { λ r. ⌜ Moved st (words (now (pool .entry))) (words (now (pool .exit))) r ⌝ }
+    ensures { λ _. let W = words (now (pool .entry)) in ⌜ Now st W (words (now (pool .exit))) (moved (nodes st W) low) ⌝ }
 {
-    let new = slots::lowest_unused(pool, st, low);
     let k = slots::kind(pool, st, 0);
     let n = slots::count(pool, st, 0);
-    slots::set_kind(pool, st, new, k);
-    slots::share_back(pool, st, new, 0, n);
-    new
+    slots::set_kind(pool, st, low, k);
+    slots::share_back(pool, st, low, 0, n);
 }
 
 // Makes the root, which has no rows left, the parent of two nodes of this height.

@@ -17,14 +17,14 @@ use slots::LEAF;
 mod grow; // a root that is too long becomes the parent of its two halves
 mod shrink; // a root with one child gives way to it
 
-// How high the root is, and a slot below which none is unused.
+// How high the root is, and the lowest unused slot, or the number of slots where there is none.
 pub struct Root {
     pub height: usize,
     pub low: usize,
 }
 
-// The keys of a batch that is not refused, taken one after the other by a sound index of this height. No slot below
-// `low` is unused. A leaf root may leave keys, and so may one that was emptied: then the root is called again.
+// The keys of a batch that is not refused, taken one after the other by a sound index of this height, of which `low` is
+// the lowest unused slot. A leaf root may leave keys, and so may one that was emptied: then the root is called again.
 pub fn batch(
     pool: &mut [u8],
     st: Settings,
@@ -77,10 +77,10 @@ fn settle_root(pool: &mut [u8], st: Settings, height: usize, v: ChangeResult, lo
 {
     match v {
         ChangeResult::Split => {
-            let upper = split_root(pool, st, height, low);
+            let low = split_root(pool, st, height, low);
             return Root {
                 height: height + 1,
-                low: upper,
+                low,
             };
         }
         ChangeResult::Remove => {

@@ -8,6 +8,7 @@ use lib.ListN.{length, take, set, length-map, length-take, length-reverseAux}
 use Rattle.slots.specs.declared.Row.{Row}
 use Rattle.slots.specs.Nodes.{nodes, nth, unused, putRows, Now}
 use Rattle.slots.specs.Nodes as S
+use Rattle.slots.specs.Search.{Lowest}
 use Rattle.slots.proofs.Nodes.{length-nodes, nth-rows, nth-put}
 use Rattle.model.specs.declared.Settings.{Settings}
 use Rattle.model.specs.Lists.{one, hit}
@@ -24,7 +25,7 @@ use Rattle.tree.proofs.Cells.{agree-items, cells-rest}
 use Rattle.tree.proofs.Unused.{used-in}
 use Rattle.settle.specs.declared.ChangeResult.{ChangeResult}
 use Rattle.settle.specs.declared.Standing.{Standing}
-use Rattle.settle.specs.Settle.{resultIs, inner, kidsAt, childAt, beforeAt, afterAt, Low, Pending, Settled, Ended, Done}
+use Rattle.settle.specs.Settle.{resultIs, inner, kidsAt, childAt, beforeAt, afterAt, Pending, Settled, Ended, Done}
 use Rattle.settle.specs.Weigh.{rowOver, Sits, Renews, renewed}
 use Rattle.settle.specs.Steps.{Bounded, Family, Poise, Poised, Came}
 use Rattle.settle.proofs.Weights.{row-over, sums-fit, bounded-left, bounded-right}
@@ -194,7 +195,7 @@ module _ {st : Settings} {W : List ℕ} {h s i low : ℕ} {v : ChangeResult} (t 
       arm-stays u r e q ea el =
           subst (λ (x : ChangeResult). Done st W W₁ h s i x r) (sym e)
           (ended-by st W W₁ h s u r b c a first q (from-kids W₁ first (record { held = w .held; header = w .header; settled = first-settled }))
-          (ea ∙ place) (subst (Low st (nodes st W₁)) (sym el) (poise .lowest)))
+          (ea ∙ place) (subst (Lowest (nodes st W₁)) (sym el) (poise .lowest)))
 
       -- a result that goes on from there
       pub arm-ends : (u : ChangeResult) (W₂ : List ℕ) (r : Standing) → v ≡ u → Done st W₁ W₂ h s i u r → Done st W W₂ h s i v r

@@ -10,7 +10,7 @@ use lib.Seq.{getD-set-other}
 use Rattle.slots.specs.declared.Row as R
 use Rattle.slots.specs.Nodes.{nodes, nth, rowsAt, unused, putRows, putIn, put2, withRows, lower, splitNodes, Room, Now}
 use Rattle.slots.specs.Nodes as S
-use Rattle.slots.specs.Search.{Lowest}
+use Rattle.slots.specs.Search.{Below, Lowest}
 use Rattle.slots.proofs.Nodes.{length-nodes}
 use Rattle.slots.proofs.Over.{map-take, map-drop}
 use Rattle.slots.proofs.Pads.{length-putIn}
@@ -32,7 +32,7 @@ use Rattle.settle.proofs.Zips.{set-turned, putIn-turned, map-turned}
 use Rattle.settle.proofs.Places.{parent-in, came-kids}
 use Rattle.settle.proofs.Parents.{renews-after, renewed-after}
 use Rattle.settle.proofs.Recast.{recast-settles}
-use Rattle.settle.proofs.Puts.{put-first, put-second, put-other, length-put, blank-set, low-from}
+use Rattle.settle.proofs.Puts.{put-first, put-second, put-other, length-put, blank-set, below-from}
 use Rattle.settle.proofs.Focuses.{own-focus, focus-away, focus-used, parent-used, focus-in, focus-long, focus-bounded, focus-rows, focus-place, focus-next}
 
 -- y is what the code has for the child's slot
@@ -180,20 +180,30 @@ module _ {st : Settings} {W : List ℕ} {h s i : ℕ} {b : List (Tree h)} {c : T
       model-new : x ≡ lowest (unusedOf ns)
       model-new = sym (unused-taken ns x (nodeFor h upperHalf) lo (inside xin) (kind-used h) .0)
 
-      pub half-left : 1 ≤ length (unusedOf ns) → (W₃ : List ℕ) → Now st W₂ W₃ (renewed (nodes st W₂) h s i y)
-          → Left st W W₃ h s (x + 1) (kidsAt ns h s) (halfPlace (halved c (lowest (unusedOf ns)) .lower) (halved c (lowest (unusedOf ns)) .upper))
-      half-left some W₃ u =
-          let q = renewed-after st W₁ W₂ h s i y more (parent-in (t .family)) (λ e. focus-away t (sym ey ∙ e)) v W₃ u in
-          let e : nodes st W₃ ≡ putRows halfNodes s newRows = q .is ∙ ap (λ (ms : List S.Node). putRows ms s newRows) nodes-half in
-          let m : Came st W W₃ h s (reverseAux b (c ∷ a)) (halfPlace lowerHalf upperHalf) =
-          record { held = u .held; header = q .header ∙ w .header; settled = rw e half-settles } in
-          record {
-            came = came-kids (t .family) W₃ _ (subst (λ (z : ℕ). Came st W W₃ h s (reverseAux b (c ∷ a)) (halfPlace (halved c z .lower) (halved c z .upper))) model-new m);
-            lowest = low-from st W₃ (x + 1) (omega (arith, xin)) (λ z g. ap (times z) (m .settled .unused) ∙ none-low z (decLt z x) g);
-          }
-        where
-          none-low : (z : ℕ) → Dec (z < x) → z < x + 1 → times z (others (unusedOf ns)) ≡ 0
-          none-low z (yes l) g = omega (arith, times-taken z (unusedOf ns) some, used-none ns z (lo .before z l))
-          none-low z (no l) g =
-              let here : z ≡ lowest (unusedOf ns) = omega (arith, model-new) in
-              omega (arith, times-taken z (unusedOf ns) some, unused-once ns z, hit-same z (lowest (unusedOf ns)) here)
+      module _ (some : 1 ≤ length (unusedOf ns)) (W₃ : List ℕ) (u : Now st W₂ W₃ (renewed (nodes st W₂) h s i y)) where
+        half-came : Came st W W₃ h s (reverseAux b (c ∷ a)) (halfPlace lowerHalf upperHalf)
+        half-came =
+            let q = renewed-after st W₁ W₂ h s i y more (parent-in (t .family)) (λ e. focus-away t (sym ey ∙ e)) v W₃ u in
+            let e : nodes st W₃ ≡ putRows halfNodes s newRows = q .is ∙ ap (λ (ms : List S.Node). putRows ms s newRows) nodes-half in
+            record { held = u .held; header = q .header ∙ w .header; settled = rw e half-settles }
+
+        -- the slots from x down are in use
+        none-low : (z : ℕ) → Dec (z < x) → z < x + 1 → times z (others (unusedOf ns)) ≡ 0
+        none-low z (yes l) g = omega (arith, times-taken z (unusedOf ns) some, used-none ns z (lo .before z l))
+        none-low z (no l) g =
+            let here : z ≡ lowest (unusedOf ns) = omega (arith, model-new) in
+            omega (arith, times-taken z (unusedOf ns) some, unused-once ns z, hit-same z (lowest (unusedOf ns)) here)
+
+        pub half-below : Below (nodes st W₃) (x + 1)
+        half-below =
+            below-from (nodes st W₃) (x + 1) (omega (arith, xin, length-nodes st W₃))
+            (λ z g. ap (times z) (half-came .settled .unused) ∙ none-low z (decLt z x) g)
+
+        pub half-left : (r : ℕ) → Lowest (nodes st W₃) r
+            → Left st W W₃ h s r (kidsAt ns h s) (halfPlace (halved c (lowest (unusedOf ns)) .lower) (halved c (lowest (unusedOf ns)) .upper))
+        half-left r l =
+            record {
+              came = came-kids (t .family) W₃ _
+                  (subst (λ (z : ℕ). Came st W W₃ h s (reverseAux b (c ∷ a)) (halfPlace (halved c z .lower) (halved c z .upper))) model-new half-came);
+              lowest = l;
+            }

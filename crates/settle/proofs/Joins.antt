@@ -6,13 +6,14 @@ use native.Mathlib.Omega.{arith}
 use lib.ListN.{length, length-append}
 use borrow.Author.Tests.{le-leb, lt-leb}
 use Rattle.slots.specs.Nodes.{nodes, rowsAt}
+use Rattle.slots.specs.Search.{Lowest}
 use Rattle.model.specs.declared.Settings.{Settings}
 use Rattle.model.specs.Tree.{Node, Tree, len, refill, release}
 use Rattle.model.specs.Share.{Row, halved, join, followed, stay}
 use Rattle.model.specs.Sound.{Stocked}
 use Rattle.model.proofs.Lists.{all-head}
 use Rattle.tree.specs.Bridge.{unusedOf}
-use Rattle.settle.specs.Settle.{kidsAt, childAt, beforeAt, afterAt, Low, Ended}
+use Rattle.settle.specs.Settle.{kidsAt, childAt, beforeAt, afterAt, Ended}
 use Rattle.settle.specs.declared.ChangeResult.the-variants as Be
 use Rattle.settle.specs.declared.Standing.{Standing}
 use Rattle.settle.specs.Steps.{Poise, Beside, Came, Left}
@@ -45,7 +46,7 @@ module _ (st : Settings) (W W₁ : List ℕ) (h s : ℕ) (b : List (Tree h)) (p 
   pub merged-rowed : len p + len c ≤ st .order → Joined (record { nodes = refill p (p .items ++ c .items) ∷ a; unused = release (c .slot) us }) → Joined (followed (join st p c us) a)
   merged-rowed le x = subst Joined (sym (join-fits st p c a us le)) x
 
-  pub even-rowed : st .order < len p + len c → Low st (nodes st W) low
+  pub even-rowed : st .order < len p + len c → Lowest (nodes st W) low
       → Came st W W₁ h s (kidsAt (nodes st W) h s)
       (record { before = b; rest = halved (refill p (p .items ++ c .items)) (c .slot) .lower ∷ halved (refill p (p .items ++ c .items)) (c .slot) .upper ∷ a; unused = us })
       → Joined (followed (join st p c us) a)
@@ -53,7 +54,7 @@ module _ (st : Settings) (W W₁ : List ℕ) (h s : ℕ) (b : List (Tree h)) (p 
 
 -- what joining children j and j + 1 asks ..
 abbrev Asks : (st : Settings) (W : List ℕ) (h s low j : ℕ) → List (Tree h) → Tree h → Tree h → List (Tree h) → Type 0
-Asks st W h s low j u v w z = Beside st W h s j u v w z × ((len v ≤ st .order) × ((len w ≤ st .order) × Low st (nodes st W) low))
+Asks st W h s low j u v w z = Beside st W h s j u v w z × ((len v ≤ st .order) × ((len w ≤ st .order) × Lowest (nodes st W) low))
 
 -- .. and answers
 abbrev Answers : (st : Settings) (W W₁ : List ℕ) (h s r : ℕ) → List (Tree h) → Tree h → Tree h → List (Tree h) → Type 0
@@ -65,7 +66,7 @@ module _ {st : Settings} {W : List ℕ} {h s i low k : ℕ} {c : Tree h} where
   pub alone-ended : (b a : List (Tree h)) (r : Standing) → Poise st W h s i low k b c a → length (rowsAt st W s) ≡ 1 → r .at ≡ i → r .low ≡ low
       → Ended st W W h s Be.Absorb r (kidsAt (nodes st W) h s) b c a
   alone-ended [] [] r t e ea el =
-      ended-by st W W h s Be.Absorb r [] c [] _ refl (stays-left t .came) (ea ∙ t .at) (subst (Low st (nodes st W)) (sym el) (t .lowest))
+      ended-by st W W h s Be.Absorb r [] c [] _ refl (stays-left t .came) (ea ∙ t .at) (subst (Lowest (nodes st W)) (sym el) (t .lowest))
   alone-ended [] (n ∷ a) r t e ea el = absurd (omega (arith, focus-long (poise-focus t), e))
   alone-ended (p ∷ b) a r t e ea el = absurd (omega (arith, focus-long (poise-focus t), e, t .at))
 

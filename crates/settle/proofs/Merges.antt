@@ -3,11 +3,13 @@ use mathlib.Core.Path.{_≡_, refl, sym, ap, _∙_, subst}
 use mathlib.Core.List.{List, [], _∷_, _++_, map, reverseAux, append-assoc}
 use Prim.Native.Nat.{ℕ, suc, _+_, _*_, _≤_, _<_, min}
 use native.Mathlib.Omega.{arith}
+use native.Mathlib.Decide.{decLt}
 use lib.ListN.{length, set, length-map, length-set}
 use lib.Seq.{getD-set-other}
 use Rattle.slots.specs.declared.Row as R
 use Rattle.slots.specs.Nodes.{nodes, nth, rowsAt, unused, putRows, without, put2, withRows, joinNodes, Give, Rows, Now}
 use Rattle.slots.specs.Nodes as S
+use Rattle.slots.specs.Search.{Lowest}
 use Rattle.slots.proofs.Nodes.{length-nodes}
 use Rattle.slots.proofs.Over.{map-append}
 use Rattle.slots.proofs.Pads.{length-without}
@@ -22,7 +24,7 @@ use Rattle.model.proofs.Settles.{times-release}
 use Rattle.tree.specs.Bridge.{rowFor, nodeFor, unusedOf}
 use Rattle.tree.proofs.Cells.{kind-used}
 use Rattle.tree.proofs.Unused.{unused-released, unused-kept}
-use Rattle.settle.specs.Settle.{kidsAt, Settled, Low}
+use Rattle.settle.specs.Settle.{kidsAt, Settled}
 use Rattle.settle.specs.Weigh.{rowOver, Renews, renewed}
 use Rattle.settle.specs.Steps.{Bounded, Beside, Came, Left}
 use Rattle.settle.proofs.Weights.{row-over, sums-fit, bounded-left, bounded-right}
@@ -30,15 +32,27 @@ use Rattle.settle.proofs.Zips.{set-turned, without-turned, map-turned}
 use Rattle.settle.proofs.Places.{node-used, node-len, family-rows, parent-in, came-kids}
 use Rattle.settle.proofs.Parents.{renews-after, renewed-after}
 use Rattle.settle.proofs.Recast.{recast-settles}
-use Rattle.settle.proofs.Puts.{put-first, put-other, length-put, blank-set, low-from, low-none}
+use Rattle.settle.proofs.Puts.{put-first, put-other, length-put, blank-set, low-from, low-none, low-one}
 use Rattle.settle.proofs.Turns.{own-lower, own-upper, apart-two, apart-lower, apart-upper, lower-in, upper-in, beside-long}
 use Rattle.settle.proofs.Cuts.{both}
 
--- a slot released: below it and below `low` none is unused
-pub released-low : (st : Settings) (W W′ : List ℕ) (low y : ℕ) → Low st (nodes st W) low → unusedOf (nodes st W′) ≡ release y (unusedOf (nodes st W)) → Low st (nodes st W′) (min low y)
+-- a slot released: the lower of it and the lowest is the lowest now
+pub released-low : (st : Settings) (W W′ : List ℕ) (low y : ℕ) → Lowest (nodes st W) low → unusedOf (nodes st W′) ≡ release y (unusedOf (nodes st W)) → Lowest (nodes st W′) (min low y)
 released-low st W W′ low y l e =
-    low-from st W′ (min low y) (omega (arith, l .within))
-    (λ z g. ap (times z) e ∙ omega (arith, times-release z y (unusedOf (nodes st W)), hit-other z y (λ q. absurd (omega arith)), low-none st (nodes st W) low l z (omega arith)))
+    low-from (nodes st W′) (min low y) (omega (arith, l .within, long))
+    (λ z g. ap (times z) e ∙ omega (arith, times-release z y (unusedOf (nodes st W)), hit-other z y (λ q. absurd (omega arith)), low-none (nodes st W) low l z (omega arith)))
+    (λ g. rw e (found (decLt low y) (omega (arith, g, long))))
+  where
+    long : length (nodes st W′) ≡ length (nodes st W)
+    long = length-nodes st W′ ∙ sym (length-nodes st W)
+
+    found : Dec (low < y) → min low y < length (nodes st W) → 0 < times (min low y) (release y (unusedOf (nodes st W)))
+    found (yes h) g =
+        let is : min low y ≡ low = omega arith in
+        rw is (omega (arith, times-release low y (unusedOf (nodes st W)), low-one (nodes st W) low l (omega arith)))
+    found (no h) g =
+        let is : min low y ≡ y = omega arith in
+        rw is (omega (arith, times-release y y (unusedOf (nodes st W)), hit-same y y refl))
 
 module _ {st : Settings} {W : List ℕ} {h s i : ℕ} {b : List (Tree h)} {p c : Tree h} {a : List (Tree h)} (t : Beside st W h s i b p c a)
     (x y : ℕ) (ex : x ≡ p .slot) (ey : y ≡ c .slot) where
@@ -151,7 +165,7 @@ module _ {st : Settings} {W : List ℕ} {h s i : ℕ} {b : List (Tree h)} {p c :
           (omega (arith, parent-in (t .family), length-nodes st W, length-put ns (p .slot) (nodeFor h (both h p c)) (c .slot) unused))
           newRows rows-new
 
-      pub merged-left : (low : ℕ) → Low st ns low → (r : ℕ) → r ≡ min low y → (W₃ : List ℕ) → Now st W₂ W₃ (renewed (nodes st W₂) h s i x) → Left st W W₃ h s r (kidsAt ns h s) mergedPlace
+      pub merged-left : (low : ℕ) → Lowest ns low → (r : ℕ) → r ≡ min low y → (W₃ : List ℕ) → Now st W₂ W₃ (renewed (nodes st W₂) h s i x) → Left st W W₃ h s r (kidsAt ns h s) mergedPlace
       merged-left low l r er W₃ u =
           let q = renewed-after st W₁ W₂ h s i x less (parent-in (t .family)) (λ e. apart-lower t (sym ex ∙ e)) v W₃ u in
           let e : nodes st W₃ ≡ putRows mergedNodes s newRows = q .is ∙ ap (λ (ms : List S.Node). putRows ms s newRows) nodes-merged in

@@ -8,6 +8,7 @@ use lib.Seq.{getD-set-other}
 use Rattle.slots.specs.declared.Row as R
 use Rattle.slots.specs.Nodes.{nodes, nth, rowsAt, unused, putRows, without, Rows, Now}
 use Rattle.slots.specs.Nodes as S
+use Rattle.slots.specs.Search.{Lowest}
 use Rattle.slots.proofs.Nodes.{length-nodes}
 use Rattle.model.specs.declared.Settings.{Settings}
 use Rattle.model.specs.Lists.{none}
@@ -16,7 +17,7 @@ use Rattle.model.specs.Share.{Place}
 use Rattle.model.proofs.Lists.{hit-same}
 use Rattle.tree.specs.Bridge.{rowFor, unusedOf}
 use Rattle.tree.proofs.Unused.{unused-released}
-use Rattle.settle.specs.Settle.{kidsAt, Settled, Low, Ended}
+use Rattle.settle.specs.Settle.{kidsAt, Settled, Ended}
 use Rattle.settle.specs.declared.ChangeResult.the-variants as Be
 use Rattle.settle.specs.declared.Standing.{Standing}
 use Rattle.settle.specs.Steps.{Focus, Came}
@@ -76,13 +77,13 @@ module _ {st : Settings} {W : List ℕ} {h s i : ℕ} {b : List (Tree h)} {c : T
         record { held = v .held; header = v .header ∙ w .header; settled = rw e out-settles }
 
     -- the walk steps back
-    pub taken-out : (low : ℕ) → Low st ns low → (r : Standing) → r .at ≡ i - 1 → r .low ≡ min low y → Ended st W W₂ h s Be.Remove r (kidsAt ns h s) b c a
+    pub taken-out : (low : ℕ) → Lowest ns low → (r : Standing) → r .at ≡ i - 1 → r .low ≡ min low y → Ended st W W₂ h s Be.Remove r (kidsAt ns h s) b c a
     taken-out low l r ea el =
         let m : Came st W W₂ h s (kidsAt ns h s) outPlace = came-kids (t .family) W₂ outPlace out-came in
-        let lo : Low st (nodes st W₂) (r .low) = rw el (released-low st W W₂ low y l (m .settled .unused ∙ ap (λ (z : ℕ). release z (unusedOf ns)) (sym ey))) in
+        let lo : Lowest (nodes st W₂) (r .low) = rw el (released-low st W W₂ low y l (m .settled .unused ∙ ap (λ (z : ℕ). release z (unusedOf ns)) (sym ey))) in
         by b (t .at) m lo
       where
-        by : (d : List (Tree h)) → i ≡ length d → Came st W W₂ h s (kidsAt ns h s) (record { before = d; rest = a; unused = release (c .slot) (unusedOf ns) }) → Low st (nodes st W₂) (r .low)
+        by : (d : List (Tree h)) → i ≡ length d → Came st W W₂ h s (kidsAt ns h s) (record { before = d; rest = a; unused = release (c .slot) (unusedOf ns) }) → Lowest (nodes st W₂) (r .low)
             → Ended st W W₂ h s Be.Remove r (kidsAt ns h s) d c a
         by [] e m lo = record { held = m .held; header = m .header; settled = m .settled; at = omega (arith, ea, e); lowest = lo }
         by (q ∷ d) e m lo =

@@ -9,14 +9,13 @@ use lib.ListN.{length, set, length-set}
 use lib.Seq.{getD-set-other, set-out}
 use Rattle.slots.specs.Nodes.{nodes, nth, unused, put2}
 use Rattle.slots.specs.Nodes as S
-use Rattle.slots.specs.Search.{Lowest}
+use Rattle.slots.specs.Search.{Below, Lowest}
 use Rattle.slots.proofs.Nodes.{nth-same, length-nodes}
 use Rattle.model.specs.declared.Settings.{Settings}
 use Rattle.model.specs.Lists.{times}
 use Rattle.model.proofs.Lists.{hit-same}
 use Rattle.tree.specs.Bridge.{unusedOf, Blank}
 use Rattle.tree.proofs.Unused.{used-none, unused-one, unused-past, unused-kept}
-use Rattle.settle.specs.Settle.{Low}
 
 -- WHAT STANDS WHERE
 
@@ -55,19 +54,30 @@ blank-set ns t x f g z k = by (ℕ-discrete z t) (decLt t (length ns))
 
 -- WHICH ARE UNUSED
 
-pub low-none : (st : Settings) (ns : List S.Node) (low : ℕ) → Low st ns low → (x : ℕ) → x < low → times x (unusedOf ns) ≡ 0
-low-none st ns low l x h = used-none ns x (l .below x h)
+pub low-none : (ns : List S.Node) (low : ℕ) → Lowest ns low → (x : ℕ) → x < low → times x (unusedOf ns) ≡ 0
+low-none ns low l x h = used-none ns x (l .before x h)
 
-pub low-from : (st : Settings) (W : List ℕ) (low : ℕ) → low ≤ st .nodes → ((x : ℕ) → x < low → times x (unusedOf (nodes st W)) ≡ 0) → Low st (nodes st W) low
-low-from st W low le f =
-    record {
-      within = le;
-      below = λ x h z. absurd (omega (arith, f x h, unused-one (nodes st W) x (omega (arith, le, h, length-nodes st W)) z));
-    }
+pub low-one : (ns : List S.Node) (low : ℕ) → Lowest ns low → low < length ns → times low (unusedOf ns) ≡ 1
+low-one ns low l h = unused-one ns low h (l .here h)
+
+-- slots of which none is unused
+pub below-from : (ns : List S.Node) (low : ℕ) → low ≤ length ns → ((x : ℕ) → x < low → times x (unusedOf ns) ≡ 0) → Below ns low
+below-from ns low le f x h z = absurd (omega (arith, f x h, unused-one ns x (omega arith) z))
+
+pub low-from : (ns : List S.Node) (low : ℕ) → low ≤ length ns → ((x : ℕ) → x < low → times x (unusedOf ns) ≡ 0)
+    → (low < length ns → 0 < times low (unusedOf ns)) → Lowest ns low
+low-from ns low le f g = record { within = le; before = below-from ns low le f; here = λ h. free (ℕ-discrete (nth ns low .kind) 0) h }
+  where
+    free : Dec (nth ns low .kind ≡ 0) → low < length ns → nth ns low .kind ≡ 0
+    free (yes e) h = e
+    free (no ne) h = absurd (omega (arith, used-none ns low ne, g h))
 
 -- unused slots that are as they were
-pub low-same : (st : Settings) (W W′ : List ℕ) (low : ℕ) → Low st (nodes st W) low → unusedOf (nodes st W′) ≡ unusedOf (nodes st W) → Low st (nodes st W′) low
-low-same st W W′ low l e = low-from st W′ low (l .within) (λ x h. ap (times x) e ∙ low-none st (nodes st W) low l x h)
+pub low-same : (st : Settings) (W W′ : List ℕ) (low : ℕ) → Lowest (nodes st W) low → unusedOf (nodes st W′) ≡ unusedOf (nodes st W) → Lowest (nodes st W′) low
+low-same st W W′ low l e =
+    let long : length (nodes st W′) ≡ length (nodes st W) = length-nodes st W′ ∙ sym (length-nodes st W) in
+    low-from (nodes st W′) low (omega (arith, l .within)) (λ x h. ap (times x) e ∙ low-none (nodes st W) low l x h)
+    (λ h. omega (arith, ap (times low) e, low-one (nodes st W) low l (omega arith)))
 
 -- where a slot is unused, the lowest is one of the pool's
 pub lowest-in : (ns : List S.Node) (r : ℕ) → Lowest ns r → 1 ≤ length (unusedOf ns) → r < length ns

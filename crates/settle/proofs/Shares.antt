@@ -10,6 +10,7 @@ use lib.Dec.{ltb}
 use lib.ListN.{length, length-reverseAux}
 use borrow.Author.Tests.{lt-ltb, le-ltb, le-leb, lt-leb, not-true, not-false}
 use Rattle.slots.specs.Nodes.{nodes, rowsAt}
+use Rattle.slots.specs.Search.{Lowest}
 use Rattle.model.specs.declared.Settings.{Settings}
 use Rattle.model.specs.Lists.{one}
 use Rattle.model.specs.Tree.{Node, Tree, len, lowest, others}
@@ -19,7 +20,7 @@ use Rattle.model.proofs.Lists.{all-head, all-tail}
 use Rattle.model.proofs.Settles.{on-stocked, back-stocked}
 use Rattle.tree.specs.Bridge.{unusedOf}
 use Rattle.model.specs.Change.{settle}
-use Rattle.settle.specs.Settle.{resultIs, kidsAt, childAt, afterAt, Settled, Low, Ended}
+use Rattle.settle.specs.Settle.{resultIs, kidsAt, childAt, afterAt, Settled, Ended}
 use Rattle.settle.specs.declared.ChangeResult.{ChangeResult}
 use Rattle.settle.specs.declared.ChangeResult.the-variants as Be
 use Rattle.settle.specs.declared.Standing.{Standing}
@@ -48,7 +49,7 @@ module _ {st : Settings} {W : List ℕ} {h s i low k : ℕ} {b : List (Tree h)} 
 -- WHERE A PLACE IS LEFT, the model's is
 
 pub ended-by : (st : Settings) (W W₁ : List ℕ) (h s : ℕ) (v : ChangeResult) (r : Standing) (b : List (Tree h)) (c : Tree h) (a : List (Tree h)) (q : Place (Tree h))
-    → settle st (resultIs v) b c a (unusedOf (nodes st W)) ≡ q → Came st W W₁ h s (kidsAt (nodes st W) h s) q → r .at ≡ length (q .before) → Low st (nodes st W₁) (r .low)
+    → settle st (resultIs v) b c a (unusedOf (nodes st W)) ≡ q → Came st W W₁ h s (kidsAt (nodes st W) h s) q → r .at ≡ length (q .before) → Lowest (nodes st W₁) (r .low)
     → Ended st W W₁ h s v r (kidsAt (nodes st W) h s) b c a
 ended-by st W W₁ h s v r b c a q e m at l =
     record {

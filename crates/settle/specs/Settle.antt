@@ -7,7 +7,7 @@ use lib.ListN.{length, take, drop, getD}
 use Rattle.slots.specs.Slots.{blank}
 use Rattle.slots.specs.Nodes.{Held, nodes, nth, rowsAt}
 use Rattle.slots.specs.Nodes as S
-use Rattle.slots.specs.Search.{Below}
+use Rattle.slots.specs.Search.{Lowest}
 use Rattle.model.specs.declared.Settings.{Settings}
 use Rattle.model.specs.Lists.{All}
 use Rattle.model.specs.Tree.{Tree, slots}
@@ -27,11 +27,6 @@ resultIs Be.Remove = Remove
 resultIs Be.Split = Split
 resultIs Be.Absorb = Absorb
 resultIs Be.Changed = Changed
-
--- no slot below `low` is unused
-pub record Low (st : Settings) (ns : List S.Node) (low : ℕ) : Type 0 where
-  pub within : low ≤ st .nodes
-  pub below : Below ns low
 
 -- an interior node in slot s with these children
 abbrev pub inner : (h : ℕ) → ℕ → List (Tree h) → Tree (suc h)
@@ -76,7 +71,7 @@ pub record Pend (st : Settings) (W : List ℕ) (h s i low : ℕ) (v : ChangeResu
   pub small : length (flat h (back before ++ (new .items ++ joined after))) < 1048576
   pub fit : All Fits (flat h (back before ++ (new .items ++ joined after)))
   pub empty : Blank (nodes st W)
-  pub lowest : Low st (nodes st W) low
+  pub lowest : Lowest (nodes st W) low
 
 abbrev pub Pending : Settings → List ℕ → ℕ → ℕ → ℕ → ℕ → ChangeResult → Type 0
 Pending st W h s i low v = Pend st W h s i low v (beforeAt (nodes st W) h s i) (childAt (nodes st W) h s i) (afterAt (nodes st W) h s i)
@@ -96,7 +91,7 @@ pub record Ended (st : Settings) (W W′ : List ℕ) (h s : ℕ) (v : ChangeResu
   pub settled : Settled h s (nodes st W) (nodes st W′) kids (settle st (resultIs v) before new after (unusedOf (nodes st W)))
   -- the walk goes on from this child
   pub at : r .at ≡ length (settle st (resultIs v) before new after (unusedOf (nodes st W)) .before)
-  pub lowest : Low st (nodes st W′) (r .low)
+  pub lowest : Lowest (nodes st W′) (r .low)
 
 abbrev pub Done : Settings → List ℕ → List ℕ → ℕ → ℕ → ℕ → ChangeResult → Standing → Type 0
 Done st W W′ h s i v r = Ended st W W′ h s v r (kidsAt (nodes st W) h s) (beforeAt (nodes st W) h s i) (childAt (nodes st W) h s i) (afterAt (nodes st W) h s i)

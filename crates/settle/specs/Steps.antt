@@ -7,6 +7,7 @@ use mathlib.Core.List.{List, [], _∷_, _++_, reverseAux}
 use lib.ListN.{length, take, drop}
 use Rattle.slots.specs.Nodes.{Held, nodes, nth, rowsAt, put2, withRows, lower}
 use Rattle.slots.specs.Nodes as S
+use Rattle.slots.specs.Search.{Lowest}
 use Rattle.model.specs.declared.Settings.{Settings}
 use Rattle.model.specs.Lists.{All}
 use Rattle.model.specs.Tree.{Node, Item, Tree, lowest}
@@ -14,7 +15,7 @@ use Rattle.model.specs.Share.{Two, Row, Place, full, stay}
 use Rattle.model.specs.Sound.{Stocked, Fits}
 use Rattle.model.specs.Contracts.{flat, joined}
 use Rattle.tree.specs.Bridge.{Holds, Apart, Blank, unusedOf}
-use Rattle.settle.specs.Settle.{Low, Settled, inner, kidsAt, childAt, beforeAt, afterAt}
+use Rattle.settle.specs.Settle.{Settled, inner, kidsAt, childAt, beforeAt, afterAt}
 
 -- A FAMILY: node s and its children, of height h, in the pool
 
@@ -48,7 +49,7 @@ pub record Poise (st : Settings) (W : List ℕ) (h s i low k : ℕ) (before : Li
   pub stocked-after : All (Stocked st) after
   pub few : length (rowsAt st W s) + k ≤ 2 * st .order
   pub room : k ≤ length (unusedOf (nodes st W))
-  pub lowest : Low st (nodes st W) low
+  pub lowest : Lowest (nodes st W) low
 
 abbrev pub Poised : Settings → List ℕ → ℕ → ℕ → ℕ → ℕ → ℕ → Type 0
 Poised st W h s i low k = Poise st W h s i low k (beforeAt (nodes st W) h s i) (childAt (nodes st W) h s i) (afterAt (nodes st W) h s i)
@@ -70,10 +71,10 @@ pub record Came (st : Settings) (W W′ : List ℕ) (h s : ℕ) (kids : List (Tr
   pub header : take 4 W′ ≡ take 4 W
   pub settled : Settled h s (nodes st W) (nodes st W′) kids p
 
--- .. and no slot below `low` is unused
+-- .. and `low` is the lowest unused slot, or the number of slots
 pub record Left (st : Settings) (W W′ : List ℕ) (h s low : ℕ) (kids : List (Tree h)) (p : Place (Tree h)) : Type 0 where
   pub came : Came st W W′ h s kids p
-  pub lowest : Low st (nodes st W′) low
+  pub lowest : Lowest (nodes st W′) low
 
 -- two neighbours became two others
 abbrev pub Parted : Settings → List ℕ → List ℕ → (h s i : ℕ) → Two (Item h) → Type 0

@@ -4,13 +4,14 @@ ghost use mathlib.Core.List.{_∷_, _++_};
 ghost use Prim.Native.Nat.{_+_, _-_, _≤_};
 ghost use Rattle.words.specs.Words.{words};
 ghost use Rattle.slots.specs.Nodes.{Now, nodes};
+ghost use Rattle.slots.specs.Search.{Lowest};
 ghost use Rattle.model.specs.Tree.{len, refill, release};
 ghost use Rattle.model.specs.Share.{halved, join, followed};
 ghost use Rattle.model.specs.Change.{Absorb, Remove};
 ghost use Rattle.model.specs.Contracts.{Says};
 ghost use Rattle.tree.specs.Bridge.{unusedOf};
 ghost use Rattle.settle.specs.declared.ChangeResult.the-variants as Be;
-ghost use Rattle.settle.specs.Settle.{Low, Done, childAt, beforeAt, afterAt};
+ghost use Rattle.settle.specs.Settle.{Done, childAt, beforeAt, afterAt};
 ghost use Rattle.settle.specs.Steps.{Poised, Neighbours, Parted, Rowed, Levels, levelNodes};
 use crate::Standing;
 use crate::share::lesser;
@@ -54,7 +55,7 @@ fn join_children(
     requires { ⌜ Neighbours st (words (now pool)) below s i ⌝ }
     requires { ⌜ len (childAt (nodes st (words (now pool))) below s i) ≤ st .order ⌝ }
     requires { ⌜ len (childAt (nodes st (words (now pool))) below s (i + 1)) ≤ st .order ⌝ }
-    requires { ⌜ Low st (nodes st (words (now pool))) low ⌝ }
+    requires { ⌜ Lowest (nodes st (words (now pool))) low ⌝ }
     ensures { λ r. let W = words (now (pool .entry)) in let ns = nodes st W in ⌜ Rowed st W (words (now (pool .exit))) below s i r (followed (join st (childAt ns below s i) (childAt ns below s (i + 1)) (unusedOf ns)) (afterAt ns below s (i + 1))) ⌝ }
 {
     if child_len(pool, st, below, s, i) + child_len(pool, st, below, s, i + 1) <= st.order {
@@ -68,7 +69,7 @@ fn join_children(
 fn merge(pool: &mut [u8], st: Settings, below: usize, s: usize, i: usize, low: usize) -> usize
     requires { ⌜ Neighbours st (words (now pool)) below s i ⌝ }
     requires { ⌜ len (childAt (nodes st (words (now pool))) below s i) + len (childAt (nodes st (words (now pool))) below s (i + 1)) ≤ st .order ⌝ }
-    requires { ⌜ Low st (nodes st (words (now pool))) low ⌝ }
+    requires { ⌜ Lowest (nodes st (words (now pool))) low ⌝ }
     ensures { λ r. let W = words (now (pool .entry)) in let ns = nodes st W in let p = childAt ns below s i in let c = childAt ns below s (i + 1) in ⌜ Rowed st W (words (now (pool .exit))) below s i r (record { nodes = refill p (p .items ++ c .items) ∷ afterAt ns below s (i + 1); unused = release (c .slot) (unusedOf ns) }) ⌝ }
 {
     let p = child_at(pool, st, below, s, i);

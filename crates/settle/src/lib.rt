@@ -21,7 +21,7 @@ pub enum ChangeResult {
     Split,
 }
 
-// The child from which a walk goes on, and a slot below which none is unused.
+// The child from which a walk goes on, and the lowest unused slot, or the number of slots where there is none.
 pub struct Standing {
     pub at: usize,
     pub low: usize,

@@ -53,7 +53,7 @@ fn room_before(pool: &[u8], st: Settings, below: usize, s: usize, i: usize) -> b
     child_len(pool, st, below, s, i - 1) < st.order
 }
 
-// Shares child `i` with the next sibling and splits it, as long as it does not fit. The answer is a slot below which none is unused.
+// Shares child `i` with the next sibling and splits it, as long as it does not fit. The answer is the lowest unused slot.
 fn share_next(pool: &mut [u8], st: Settings, below: usize, s: usize, i: usize, low: usize) -> usize
     requires { ⌜ Poised st (words (now pool)) below s i low 1 ⌝ }
     ensures { λ r. let W = words (now (pool .entry)) in let ns = nodes st W in ⌜ Rowed st W (words (now (pool .exit))) below s i r (shareNext st (childAt ns below s i) (afterAt ns below s i) (unusedOf ns)) ⌝ }
@@ -80,18 +80,17 @@ fn split_over(pool: &mut [u8], st: Settings, below: usize, s: usize, i: usize, l
     split_child(pool, st, below, s, i, low)
 }
 
-// The upper half of child `i` goes to the lowest unused slot.
+// The upper half of child `i` goes to the lowest unused slot, and the next one is looked for.
 fn split_child(pool: &mut [u8], st: Settings, below: usize, s: usize, i: usize, low: usize) -> usize
     requires { ⌜ Poised st (words (now pool)) below s i low 1 ⌝ }
     ensures { λ r. let W = words (now (pool .entry)) in let ns = nodes st W in let us = unusedOf ns in let two = halved (childAt ns below s i) (lowest us) in ⌜ Rowed st W (words (now (pool .exit))) below s i r (record { nodes = two .lower ∷ two .upper ∷ afterAt ns below s i; unused = others us }) ⌝ }
 {
     let c = child_at(pool, st, below, s, i);
-    let new = slots::lowest_unused(pool, st, low);
-    slots::split(pool, st, c, new);
-    let row = weigh(pool, st, below, new);
+    slots::split(pool, st, c, low);
+    let row = weigh(pool, st, below, low);
     slots::insert_row(pool, st, s, i + 1, row);
     renew(pool, st, below, s, i, c);
-    new + 1
+    slots::lowest_unused(pool, st, low + 1)
 }
 
 // Child `i + 1` hands its first rows to child `i`. (The Rust's `steal_children_from_start`.)

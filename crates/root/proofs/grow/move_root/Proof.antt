@@ -18,21 +18,21 @@ use Rattle.root.proofs.grow.move_root.Tie as tie
 
 set-kind-requires : tie.Need-set-kind-requires
 set-kind-requires c κs =
-    let start = c .before .before .before .before .before .before .before .before in
-    record { held = start .pre .held; slot = pool-lowest (start .args .st) (words (start .args .pool .now)) (c .before .before .before .before .before .lowest-unused .result) (c .before .before .before .before .before .lowest-unused .ensures) (start .pre .some) }
+    let start = c .before .before .before .before .before .before in
+    record { held = start .pre .held; slot = pool-lowest (start .args .st) (words (start .args .pool .now)) (start .args .low) (start .pre .lowest) (start .pre .some) }
 
 share-back-requires : tie.Need-share-back-requires
 share-back-requires c κs =
-    let start = c .before .before .before .before .before .before .before .before .before .before .before .before in
+    let start = c .before .before .before .before .before .before .before .before .before .before in
     let a = start .args in
     let pre = start .pre in
-    let new = c .before .before .before .before .before .before .before .before .before .lowest-unused .result in
+    let new = a .low in
     let n = c .before .before .before .before .before .count in
     let w = c .before .before .before .set-kind in
     let W₀ = words (a .pool .now) in
     let W₁ = words (w .last .0) in
-    let inside : new < a .st .nodes = pool-lowest (a .st) W₀ new (c .before .before .before .before .before .before .before .before .before .lowest-unused .ensures) (pre .some) in
-    let free : nth (nodes (a .st) W₀) new .kind ≡ 0 = c .before .before .before .before .before .before .before .before .before .lowest-unused .ensures .here (omega (arith, length-nodes (a .st) W₀)) in
+    let inside : new < a .st .nodes = pool-lowest (a .st) W₀ new (pre .lowest) (pre .some) in
+    let free : nth (nodes (a .st) W₀) new .kind ≡ 0 = pre .lowest .here (omega (arith, length-nodes (a .st) W₀)) in
     let apart : 0 ≢ new = λ e. pre .used (ap (λ s. nth (nodes (a .st) W₀) s .kind) e ∙ free) in
     let mine : length (rowsAt (a .st) W₁ 0) ≡ length (rowsAt (a .st) W₀ 0) = ap length (kept-kind (a .st) W₀ W₁ 0 new _ (w .ensures) apart) in
     let none : length (rowsAt (a .st) W₁ new) ≡ 0 =
@@ -48,34 +48,29 @@ share-back-requires c κs =
 
 returns : tie.Need-returns
 returns c =
-    let start = c .before .before .before .before .before .before .before .before .before .before .before .before .before .before .before in
+    let start = c .before .before .before .before .before .before .before .before .before .before .before .before .before in
     let a = start .args in
     let pre = start .pre in
-    let new = c .before .before .before .before .before .before .before .before .before .before .before .before .lowest-unused .result in
+    let new = a .low in
     let k = c .before .before .before .before .before .before .before .before .before .before .kind in
     let n = c .before .before .before .before .before .before .before .before .count in
     let W₀ = words (a .pool .now) in
     let W₁ = words (c .before .before .before .before .before .before .set-kind .last .0) in
     let W₂ = words (c .before .before .share-back .last .0) in
     let ns = nodes (a .st) W₀ in
-    let inside : new < a .st .nodes = pool-lowest (a .st) W₀ new (c .before .before .before .before .before .before .before .before .before .before .before .before .lowest-unused .ensures) (pre .some) in
+    let inside : new < a .st .nodes = pool-lowest (a .st) W₀ new (pre .lowest) (pre .some) in
     let inside-nodes : new < length (nodes (a .st) W₀) = omega (arith, length-nodes (a .st) W₀) in
-    let free : nth (nodes (a .st) W₀) new .kind ≡ 0 = c .before .before .before .before .before .before .before .before .before .before .before .before .lowest-unused .ensures .here inside-nodes in
+    let free : nth (nodes (a .st) W₀) new .kind ≡ 0 = pre .lowest .here inside-nodes in
     let apart : 0 ≢ new = λ e. pre .used (ap (λ s. nth (nodes (a .st) W₀) s .kind) e ∙ free) in
     let back : List Node → List Node = λ ms. backNodes ms new 0 (n .result) in
-    record {
-      slot = c .before .before .before .before .before .before .before .before .before .before .before .before .lowest-unused .ensures;
-      inside = inside;
-      did = become (a .st) W₀ W₂ (back (putKind ns new (k .result))) (moved ns new)
-          (then back (a .st) W₀ W₁ W₂ (putKind ns new (k .result)) (c .before .before .before .before .before .before .set-kind .ensures) (c .before .before .share-back .ensures))
-          (moved-all ns new (k .result) (n .result) apart inside-nodes (pre .empty new free) (k .ensures) (n .ensures .is));
-    }
+    become (a .st) W₀ W₂ (back (putKind ns new (k .result))) (moved ns new)
+    (then back (a .st) W₀ W₁ W₂ (putKind ns new (k .result)) (c .before .before .before .before .before .before .set-kind .ensures) (c .before .before .share-back .ensures))
+    (moved-all ns new (k .result) (n .result) apart inside-nodes (pre .empty new free) (k .ensures) (n .ensures .is))
 
 pub move-root-spec : {M : Type 1} → statement M
 move-root-spec =
     tie.close
     (tie.spec
-    (λ c κs. search needs)
     (λ c κs. search needs)
     (λ c κs. search needs)
     set-kind-requires
