@@ -215,8 +215,33 @@ pub fn scan(
     opened: usize,
     more: bool,
 ) -> bool {
+    sifted(
+        pool,
+        start,
+        end,
+        direction,
+        Sift::All,
+        room,
+        keys,
+        opened,
+        more,
+    )
+}
+
+// The same of what passes a sift.
+pub fn sifted(
+    pool: &[u8],
+    start: Bound,
+    end: Bound,
+    direction: Direction,
+    sift: Sift,
+    room: usize,
+    keys: &[u64],
+    opened: usize,
+    more: bool,
+) -> bool {
     let mut out = [170u8; 480];
-    match scan_into(pool, start, end, direction, room, &mut out) {
+    match scan_into(pool, start, end, direction, sift, room, &mut out) {
         ScanAnswer::Done(s) => {
             if s.written != keys.len() {
                 return false;
@@ -233,6 +258,7 @@ fn scan_into(
     start: Bound,
     end: Bound,
     direction: Direction,
+    sift: Sift,
     room: usize,
     out: &mut [u8],
 ) -> ScanAnswer {
@@ -240,7 +266,7 @@ fn scan_into(
     if n > out.len() {
         return ScanAnswer::Refused(0);
     }
-    index::scan(pool, start, end, direction, Sift::All, &mut out[..n])
+    index::scan(pool, start, end, direction, sift, &mut out[..n])
 }
 
 // The output holds the entries of these keys, and behind them nothing was touched.

@@ -14,7 +14,7 @@ fn main() {
         held = tally(held, b"case ", n, fourteen::case(n));
     }
     let mut read = 0;
-    for n in 1..16 {
+    for n in 1..18 {
         read = tally(read, b"reading ", n, readings::reading(n));
     }
     tell(b"cases that held: ", held);

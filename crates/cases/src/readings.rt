@@ -9,6 +9,7 @@ use model::Direction;
 use model::Expectation;
 use model::Operation;
 use model::Reference;
+use model::Sift;
 use trial::word;
 
 // Whether reading n holds.
@@ -29,6 +30,8 @@ pub fn reading(n: u64) -> bool {
         13 => frames_read_back(),
         14 => zeros_behind(),
         15 => depth_8(),
+        16 => excluded_end(),
+        17 => size_at_least(),
         _ => false,
     }
 }
@@ -291,4 +294,66 @@ fn depth_8() -> bool {
         && expect::counts(b, 0, 0, 1, 0)
         && expect::leaves(&pool, &want)
         && expect::no_line(&pool, 1)
+}
+
+// An Excluded end: upwards the loop ends once the previous separator is at it, backwards it does not.
+fn excluded_end() -> bool {
+    let mut pool = [0u8; 3360];
+    if !pools::open_p(&mut pool) {
+        return false;
+    }
+    let two = [1u64, 2];
+    let two_down = [2u64, 1];
+    let three = [1u64, 2, 3];
+    let three_down = [3u64, 2, 1];
+    let from = Bound::Included(1);
+    let to = Bound::Excluded(3);
+    let past = Bound::Excluded(4);
+    let u = Bound::Unbounded;
+    expect::scan(&pool, from, to, Direction::Up, 9, &two, 2, false)
+        && expect::scan(&pool, from, to, Direction::Down, 9, &two_down, 3, false)
+        && expect::scan(&pool, u, past, Direction::Up, 9, &three, 3, false)
+        && expect::scan(&pool, u, past, Direction::Down, 9, &three_down, 3, false)
+}
+
+// SizeAtLeast, of leaves of 3 × 5 and 2 × 16: a child is opened for its total size, an entry is listed for its own.
+fn size_at_least() -> bool {
+    let mut pool = [0u8; 3360];
+    if !pools::open_p(&mut pool) {
+        return false;
+    }
+    let keys = [1u64, 2, 3];
+    let places = [257u64, 258, 259];
+    let sizes = [5u32, 5, 5];
+    let a = index::batch(&mut pool, &keys, &places, &sizes, Operation::SetEach);
+    if !expect::counts(a, 0, 3, 0, 0) {
+        return false;
+    }
+    let none = [0u64; 0];
+    let two = [4u64, 5];
+    let two_down = [5u64, 4];
+    of_size(&pool, Direction::Up, 15, &two, 3)
+        && of_size(&pool, Direction::Down, 15, &two_down, 3)
+        && of_size(&pool, Direction::Up, 16, &two, 2)
+        && of_size(&pool, Direction::Down, 16, &two_down, 2)
+        && of_size(&pool, Direction::Up, 17, &none, 2)
+        && of_size(&pool, Direction::Down, 17, &none, 2)
+        && of_size(&pool, Direction::Up, 33, &none, 1)
+        && of_size(&pool, Direction::Down, 33, &none, 1)
+}
+
+// What a scan of all that is at least so large lists, and how many nodes it opens.
+fn of_size(pool: &[u8], direction: Direction, size: u32, keys: &[u64], opened: usize) -> bool {
+    let u = Bound::Unbounded;
+    expect::sifted(
+        pool,
+        u,
+        u,
+        direction,
+        Sift::SizeAtLeast(size),
+        9,
+        keys,
+        opened,
+        false,
+    )
 }

@@ -222,9 +222,9 @@ broad = record { nodes = 16; order = 7; minimum = 3 }
 abbrev pub fiveOfEight : Index
 fiveOfEight = after eight (set (1 ∷ []) ∷ set (2 ∷ []) ∷ set (3 ∷ []) ∷ set (4 ∷ []) ∷ set (5 ∷ []) ∷ []) (newIndex 8)
 
--- P with size 64 under key 5
-abbrev pub large5 : Index
-large5 = after desk (record { operation = Op.SetEach; places = 261 ∷ []; sizes = 64 ∷ []; keys = 5 ∷ [] } ∷ []) P
+-- P with size 5 under the keys of its first leaf
+abbrev pub light : Index
+light = after desk (record { operation = Op.SetEach; places = 257 ∷ 258 ∷ 259 ∷ []; sizes = 5 ∷ 5 ∷ 5 ∷ []; keys = 1 ∷ 2 ∷ 3 ∷ [] } ∷ []) P
 
 abbrev pub readings : List Case
 readings =
@@ -249,14 +249,13 @@ readings =
     (record { keys = 1 ∷ 2 ∷ []; opened = 2; more = false } ∷ record { keys = 2 ∷ 1 ∷ []; opened = 3; more = false } ∷ [])
     ∷ case (List Seen) (between Up Unbounded (Excluded 4) 9 P ∷ between Down Unbounded (Excluded 4) 9 P ∷ [])
     (record { keys = 1 ∷ 2 ∷ 3 ∷ []; opened = 3; more = false } ∷ record { keys = 3 ∷ 2 ∷ 1 ∷ []; opened = 3; more = false } ∷ [])
-    -- SizeAtLeast, of leaves of 3 × 16 and 16 + 64: a child is opened for its total size, an entry is listed for its own
-    ∷ case (List Seen) (ofSize 48 Up large5 ∷ ofSize 48 Down large5 ∷ ofSize 49 Up large5 ∷ ofSize 49 Down large5 ∷ [])
-    (record { keys = 5 ∷ []; opened = 3; more = false } ∷ record { keys = 5 ∷ []; opened = 3; more = false }
-    ∷ record { keys = 5 ∷ []; opened = 2; more = false } ∷ record { keys = 5 ∷ []; opened = 2; more = false } ∷ [])
-    ∷ case (List Seen) (ofSize 16 Up large5 ∷ ofSize 16 Down large5 ∷ ofSize 64 Up large5 ∷ ofSize 65 Up large5 ∷ ofSize 81 Down large5 ∷ [])
-    (record { keys = 1 ∷ 2 ∷ 3 ∷ 4 ∷ 5 ∷ []; opened = 3; more = false } ∷ record { keys = 5 ∷ 4 ∷ 3 ∷ 2 ∷ 1 ∷ []; opened = 3; more = false }
-    ∷ record { keys = 5 ∷ []; opened = 2; more = false } ∷ record { keys = []; opened = 2; more = false }
-    ∷ record { keys = []; opened = 1; more = false } ∷ [])
+    -- SizeAtLeast, of leaves of 3 × 5 and 2 × 16: a child is opened for its total size, an entry is listed for its own
+    ∷ case (List Seen) (ofSize 15 Up light ∷ ofSize 15 Down light ∷ ofSize 16 Up light ∷ ofSize 16 Down light ∷ [])
+    (record { keys = 4 ∷ 5 ∷ []; opened = 3; more = false } ∷ record { keys = 5 ∷ 4 ∷ []; opened = 3; more = false }
+    ∷ record { keys = 4 ∷ 5 ∷ []; opened = 2; more = false } ∷ record { keys = 5 ∷ 4 ∷ []; opened = 2; more = false } ∷ [])
+    ∷ case (List Seen) (ofSize 17 Up light ∷ ofSize 17 Down light ∷ ofSize 33 Up light ∷ ofSize 33 Down light ∷ [])
+    (record { keys = []; opened = 2; more = false } ∷ record { keys = []; opened = 2; more = false }
+    ∷ record { keys = []; opened = 1; more = false } ∷ record { keys = []; opened = 1; more = false } ∷ [])
     -- output full
     ∷ case (List Seen) (between Up Unbounded Unbounded 2 P ∷ between Up Unbounded Unbounded 3 P ∷ between Up Unbounded Unbounded 5 P ∷ [])
     (record { keys = 1 ∷ 2 ∷ []; opened = 2; more = true } ∷ record { keys = 1 ∷ 2 ∷ 3 ∷ []; opened = 3; more = true }

@@ -22,7 +22,7 @@ abbrev Inv-loop2 : tie.InvT-loop2
 Inv-loop2 held read₀ n₀ t6 t7 t8 t9 read n = Unit {0}
 
 abbrev μ-loop2 : tie.MeasureT-loop2
-μ-loop2 held read₀ n₀ t6 t7 t8 t9 read n = 16 - n
+μ-loop2 held read₀ n₀ t6 t7 t8 t9 read n = 18 - n
 
 -- src/main.rt:13:5
 loop-holds : tie.Need-loop-holds Inv-loop μ-loop Inv-loop2 μ-loop2
