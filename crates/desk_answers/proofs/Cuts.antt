@@ -224,13 +224,13 @@ counted t y a e = omega (
 
 replied : (w : Wanted) (l t : List ℕ) (a : Outcome) → Replies w l t a → a .count ≤ length (a .text)
 replied w l t a (holds s e) = counted t (reply (imageOf (settingsIn l)) l (settingsIn l) w (indexOf l)) a e
-replied w l t a (fails s e) = counted t (refusing (λ x. l) l 2) a e
+replied w l t a (fails s e) = counted t (refusing l 2) a e
 
 pub answer-inside : (w : Wanted) (l t : List ℕ) (a : Outcome) → Answers w l t a → a .count ≤ length (a .text)
 answer-inside (set es) l t a p = replied (set es) l t a p
 answer-inside (drops ks) l t a p = replied (drops ks) l t a p
 answer-inside dump l t a p = replied dump l t a p
-answer-inside malformed l t a p = counted t (refusing (λ x. l) l 15) a p
+answer-inside malformed l t a p = counted t (refusing l 15) a p
 
 pub turn-inside : (p : Place) (l t more : List ℕ) (u : Turned) → Turns p l t more u → u .left .count ≤ length (u .left .text)
 turn-inside p l t more u (goes-on a b) = omega (arith, ap (λ (x : Turned). x .left .count) b)

@@ -87,7 +87,7 @@ module _ (x : Index) (s : Sound desk x) where
   pool = imageOf desk x
 
   on-sound : (w : Wanted) (t : List ℕ) (a : Outcome)
-      → Where (SoundPool pool) (outcome t (reply (imageOf (settingsIn pool)) pool (settingsIn pool) w (indexOf pool))) (outcome t (refusing (λ y. pool) pool 2)) a
+      → Where (SoundPool pool) (outcome t (reply (imageOf (settingsIn pool)) pool (settingsIn pool) w (indexOf pool))) (outcome t (refusing pool 2)) a
       → a ≡ outcome t (held (imageOf desk) x (reply (λ y. y) x desk w x))
   on-sound w t a p =
       by-sound (image-sound desk x s) p

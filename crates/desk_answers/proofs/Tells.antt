@@ -59,10 +59,10 @@ module _ (c : Call) (l m t t′ : List ℕ) (k : ℕ) where
         by (holds s f) = holds s (by-done (answer (settingsIn l) c (indexOf l)) f)
 
   module _ (n : ℕ) (a : k ≡ length (refusedText n)) (b : t′ ≡ over 0 (refusedText n) t) where
-    refusing-by : (i : ℕ) → _≡_ {A = Left Counts} (refused n leaving m) (refused i leaving l) → record { count = k; pool = m; text = t′ } ≡ outcome t (refusing (λ x. l) l i)
+    refusing-by : (i : ℕ) → _≡_ {A = Left Counts} (refused n leaving m) (refused i leaving l) → record { count = k; pool = m; text = t′ } ≡ outcome t (refusing l i)
     refusing-by i e =
         let number : n ≡ i = same (ap (λ (w : Left Counts). w .answer) e) in
-        told (refusing (λ x. l) l i) k m t t′ (a ∙ ap (λ x. length (refusedText x)) number) (ap (λ (w : Left Counts). w .bytes) e) (b ∙ ap (λ x. over 0 (refusedText x) t) number)
+        told (refusing l i) k m t t′ (a ∙ ap (λ x. length (refusedText x)) number) (ap (λ (w : Left Counts). w .bytes) e) (b ∙ ap (λ x. over 0 (refusedText x) t) number)
       where
         same : _≡_ {A = Answer Counts} (refused n) (refused i) → n ≡ i
         same h = cc
@@ -170,5 +170,5 @@ module _ (r : Reading) (w : Wanted) (e : r ≡ readingOf w) where
   pub dumps : r .order ≡ Read.Dump → (l t : List ℕ) (a : Outcome) → Replies dump l t a → Answers w l t a
   dumps o l t a p = subst (λ v. Answers v l t a) (sym (is-dump w (kind o))) p
 
-  pub is-refused : r .order ≡ Read.Malformed → (l t : List ℕ) (a : Outcome) → a ≡ outcome t (refusing (λ x. l) l malformed-line) → Answers w l t a
+  pub is-refused : r .order ≡ Read.Malformed → (l t : List ℕ) (a : Outcome) → a ≡ outcome t (refusing l malformed-line) → Answers w l t a
   is-refused o l t a p = subst (λ v. Answers v l t a) (sym (is-malformed w (kind o))) p

@@ -31,7 +31,7 @@ outcome t y = record { count = length (y .text); pool = y .after; text = y .text
 
 -- a reply on a sound pool l; on any other a call is refused by 2
 abbrev pub OnPool : List ℕ → List ℕ → Reply (List ℕ) → Outcome → Type 0
-OnPool l t y a = Where (SoundPool l) (outcome t y) (outcome t (refusing (λ x. l) l 2)) a
+OnPool l t y a = Where (SoundPool l) (outcome t y) (outcome t (refusing l 2)) a
 
 -- a batch
 abbrev pub Changes : Call → List ℕ → List ℕ → Outcome → Type 0
@@ -45,7 +45,7 @@ abbrev pub Answers : Wanted → List ℕ → List ℕ → Outcome → Type 0
 Answers (set es) l t a = Replies (set es) l t a
 Answers (drops ks) l t a = Replies (drops ks) l t a
 Answers dump l t a = Replies dump l t a
-Answers malformed l t a = a ≡ outcome t (refusing (λ x. l) l malformed-line)
+Answers malformed l t a = a ≡ outcome t (refusing l malformed-line)
 
 -- LINES ANSWERED ONE AFTER THE OTHER, from the pool l on: what is written is the texts, one behind the other
 pub data Session : List Kept → List ℕ → List ℕ → Type 0 where

@@ -37,17 +37,18 @@ pub record Reply (A : Type 0) : Type 0 where
   pub text : List ℕ
   pub after : A
 
--- `image` tells how an index is held; `same` is what was there before
-module _ {A : Type 0} (image : Index → A) (same : A) where
-  abbrev pub refusing : ℕ → Reply A
-  refusing n = record { text = refusedText n; after = same }
+-- a refusal leaves what was there
+abbrev pub refusing : {A : Type 0} → A → ℕ → Reply A
+refusing same n = record { text = refusedText n; after = same }
 
+-- `image` tells how an index is held, and `same` is what was there before
+module _ {A : Type 0} (image : Index → A) (same : A) where
   abbrev pub batchReply : Answer Batched → Reply A
-  batchReply (refused n) = refusing n
+  batchReply (refused n) = refusing same n
   batchReply (done b) = record { text = doneText (b .counts); after = image (b .index) }
 
   abbrev pub reply : Settings → Wanted → Index → Reply A
   reply st (set es) x = batchReply (answer st (setCall es) x)
   reply st (drops ks) x = batchReply (answer st (dropCall ks) x)
   reply st dump x = record { text = dumpText (framesOf x); after = same }
-  reply st malformed x = refusing malformed-line
+  reply st malformed x = refusing same malformed-line

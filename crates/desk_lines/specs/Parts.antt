@@ -3,7 +3,7 @@
 use Prim.Native.Nat.{ℕ, _+_}
 use mathlib.Core.Path.{_≡_}
 use mathlib.Core.Bool.{cond}
-use mathlib.Core.List.{List, [], _∷_, _++_}
+use mathlib.Core.List.{List, _++_}
 use lib.ListN.{length, take}
 use lib.Dec.{leb}
 use Rattle.desk_text.specs.Texts.{over}
@@ -39,15 +39,6 @@ keeping p part =
     cond (leb (p .count + length part) longest)
     (record { count = p .count + length part; bytes = over (p .count) part (p .bytes) })
     (record { count = 256; bytes = p .bytes })
-
--- what is kept of parts, one after the other
-abbrev pub keepingAll : Place → List (List ℕ) → Place
-keepingAll p [] = p
-keepingAll p (part ∷ parts) = keepingAll (keeping p part) parts
-
-abbrev pub joinedAll : Kept → List (List ℕ) → Kept
-joinedAll k [] = k
-joinedAll k (part ∷ parts) = joinedAll (joined k part) parts
 
 -- STATEMENTS: what is in the place is what is to be kept, and that is the line, however it was cut
 abbrev pub KeepsTheParts : Type 0

@@ -12,7 +12,7 @@ use Rattle.desk_answers.proofs.answer.Statement.{statement}
 use Rattle.desk_answers.proofs.answer.Tie as tie
 
 returns : tie.Need-returns
-returns c = let x = c .before .before .before .args in let l = x .pool .now in let t = x .text .now in let line = x .line .now in let s = c .say-refused in let a : Outcome = record { count = s .result; pool = l; text = s .last .0 } in subst (λ w. Answers w l t a) (sym (too-long line (x .n) (c .before .before .if1 .taken))) (told (refusing (λ y. l) l 15) (s .result) l t (s .last .0) (s .ensures .0) refl (s .ensures .1))
+returns c = let x = c .before .before .before .args in let l = x .pool .now in let t = x .text .now in let line = x .line .now in let s = c .say-refused in let a : Outcome = record { count = s .result; pool = l; text = s .last .0 } in subst (λ w. Answers w l t a) (sym (too-long line (x .n) (c .before .before .if1 .taken))) (told (refusing l 15) (s .result) l t (s .last .0) (s .ensures .0) refl (s .ensures .1))
 
 slice-aggregate-read-order : tie.Need-slice-aggregate-read-order
 slice-aggregate-read-order c = sym (length-take-le _ _ (omega (arith, c .before .bytes .given, c .before .before .if1 .left)))
@@ -51,7 +51,7 @@ returns-4 : tie.Need-returns-4
 returns-4 c = let r = c .before .before .before .before .before .before .before .before .before .read-order in let x = c .before .before .before .before .before .before .before .before .before .before .before .before .before .args in let w = wanted (take (x .n) (x .line .now)) in let l = x .pool .now in let t = x .text .now in let a : Outcome = record { count = c .dump .result; pool = l; text = c .dump .last .1 .0 } in subst (λ v. Answers v l t a) (not-too-long (x .line .now) (x .n) (c .before .before .before .before .before .before .before .before .before .before .before .before .if1 .left)) (dumps (r .result) w (r .ensures) (c .before .before .before .before .enum-told .given .1) l t a (c .dump .ensures))
 
 returns-5 : tie.Need-returns-5
-returns-5 c = let r = c .before .before .before .before .before .before .before .read-order in let x = c .before .before .before .before .before .before .before .before .before .before .before .args in let w = wanted (take (x .n) (x .line .now)) in let l = x .pool .now in let t = x .text .now in let s = c .say-refused2 in let a : Outcome = record { count = s .result; pool = l; text = s .last .0 } in subst (λ v. Answers v l t a) (not-too-long (x .line .now) (x .n) (c .before .before .before .before .before .before .before .before .before .before .if1 .left)) (is-refused (r .result) w (r .ensures) (c .before .before .enum-told2 .given .1) l t a (told (refusing (λ y. l) l 15) (s .result) l t (s .last .0) (s .ensures .0) refl (s .ensures .1)))
+returns-5 c = let r = c .before .before .before .before .before .before .before .read-order in let x = c .before .before .before .before .before .before .before .before .before .before .before .args in let w = wanted (take (x .n) (x .line .now)) in let l = x .pool .now in let t = x .text .now in let s = c .say-refused2 in let a : Outcome = record { count = s .result; pool = l; text = s .last .0 } in subst (λ v. Answers v l t a) (not-too-long (x .line .now) (x .n) (c .before .before .before .before .before .before .before .before .before .before .if1 .left)) (is-refused (r .result) w (r .ensures) (c .before .before .enum-told2 .given .1) l t a (told (refusing l 15) (s .result) l t (s .last .0) (s .ensures .0) refl (s .ensures .1)))
 
 pub answer-spec : {M : Type 1} → statement M
 answer-spec =
