@@ -8,9 +8,9 @@ use lib.ListN.{length}
 use Rattle.model.specs.declared.Counts.{Counts}
 use Rattle.model.specs.declared.Settings.{Settings}
 use Rattle.model.specs.Lists.{All, none, one}
-use Rattle.model.specs.Tree.{Node, Item, Tree, Index, greatestKey}
+use Rattle.model.specs.Tree.{Tree, Index, greatestKey}
 use Rattle.model.specs.Plain.{Task}
-use Rattle.model.specs.Change.{Run, Walked, walk, change, noCeiling, Batched, changeRoot}
+use Rattle.model.specs.Change.{Run, Walked, walk, change, noCeiling, changeRoot}
 use Rattle.model.specs.Sound.{InLimits, Stocked, Whole, Sorted}
 use Rattle.model.specs.Contracts.{flat, joined, Rising, Given}
 use Rattle.model.specs.Demands.{Uncrowded}

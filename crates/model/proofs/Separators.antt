@@ -1,6 +1,6 @@
 -- A separator is the greatest key below its node, wherever nodes are stocked and keys ascend: so in a sound index, and once an over-full child
 -- is shared out. Assumes nothing.
-use mathlib.Core.Path.{_≡_, sym, ap, _∙_}
+use mathlib.Core.Path.{_≡_, sym, _∙_}
 use mathlib.Core.List.{List, [], _∷_, _++_, map, reverseAux}
 use Prim.Native.Nat.{ℕ, zero, suc, _<_}
 use native.Mathlib.Omega.{arith}
@@ -11,7 +11,7 @@ use Rattle.model.specs.Tree.{Item, Tree, entries}
 use Rattle.model.specs.Share.{Place, shareOut}
 use Rattle.model.specs.Change.{Split}
 use Rattle.model.specs.Sound.{Stocked, Whole, Sorted}
-use Rattle.model.specs.Contracts.{flat, joined, back}
+use Rattle.model.specs.Contracts.{flat, joined}
 use Rattle.model.specs.Demands.{Greatest, Separated, SharedSeparators, SoundSeparators}
 use Rattle.model.proofs.Lists.{all-append, all-map, all-turned, all-drop, ordered-left, ordered-right, hit-same}
 use Rattle.model.proofs.Trees.{Ends, separator-ends, ends-under, flat-joined, back-joined}

@@ -4,7 +4,7 @@ use mathlib.Core.Path.{_≡_}
 use mathlib.Core.Logic.{_≢_}
 use mathlib.Core.List.{List, [], _∷_}
 use lib.ListN.{length, take, set}
-use Rattle.slots.specs.Nodes.{Held, Now, nodes, nth, rowsAt, put2, withRows}
+use Rattle.slots.specs.Nodes.{Held, nodes, nth, rowsAt, put2, withRows}
 use Rattle.slots.specs.Nodes as S
 use Rattle.slots.specs.Search.{Lowest}
 use Rattle.model.specs.declared.Settings.{Settings}

@@ -1,6 +1,5 @@
 -- `split_child` meets its contract: the steps are those of `Halves`. Assumes nothing.
 use native.Mathlib.Omega.{arith}
-use Rattle.slots.proofs.Nodes.{length-nodes}
 use Rattle.settle.proofs.Focuses.{poise-focus, poise-new, focus-sits, focus-few}
 use Rattle.settle.proofs.Halves.{can-split, upper-weighs, upper-room, lower-renews, half-below, half-left}
 use borrow.Author.Needs.{needs}
