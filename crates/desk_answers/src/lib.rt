@@ -1,7 +1,9 @@
 // The desk's answers: a line that was kept, answered on the desk's pool, as text in bytes that are lent.
 ghost use mathlib.Core.Path.{_≡_};
 ghost use Prim.Native.Nat.{_≤_};
-ghost use lib.ListN.{length};
+ghost use mathlib.Core.List.{[]};
+ghost use lib.ListN.{length, take};
+ghost use Rattle.model.specs.declared.Operation.the-variants.{SetEach, Remove};
 ghost use Rattle.desk_lines.specs.Orders.{ordered};
 ghost use Rattle.desk_lines.specs.Parts.{held};
 ghost use Rattle.desk_answers.specs.Promise.{opened, Answers, Changes, Replies};
@@ -10,6 +12,7 @@ mod dump; // all frames
 mod part; // the next part of a line
 
 use desk_lines::Order;
+use desk_lines::Reading;
 use dump::dump;
 use index::BatchAnswer;
 use model::Operation;
@@ -44,29 +47,53 @@ pub fn answer(pool: &mut [u8; 3360], line: &[u8; 255], n: usize, text: &mut [u8;
     let bytes: &[u8] = line;
     let read = desk_lines::read_order(&bytes[..n]);
     let order = read.order;
-    let keys = read.keys;
-    let places = read.places;
-    let sizes = read.sizes;
     match order {
-        Order::Set(m) => change(
-            pool,
-            &keys[..m],
-            &places[..m],
-            &sizes[..m],
-            Operation::SetEach,
-            text,
-        ),
-        Order::Drop(m) => change(
-            pool,
-            &keys[..m],
-            &places[..0],
-            &sizes[..0],
-            Operation::Remove,
-            text,
-        ),
+        Order::Set(m) => set_rows(pool, read, m, text),
+        Order::Drop(m) => drop_keys(pool, read, m, text),
         Order::Dump => dump(pool, text),
         Order::Malformed => desk_text::say_refused(text, MALFORMED),
     }
+}
+
+// The batch that a `set` of `m` rows asks for.
+fn set_rows(pool: &mut [u8], read: Reading, m: usize, text: &mut [u8]) -> usize
+    requires { ⌜ 89 ≤ length (now text) ⌝ }
+    requires { ⌜ (m ≤ length (read .keys)) × (m ≤ length (read .places)) × (m ≤ length (read .sizes)) ⌝ }
+    ensures { λ r. ⌜ Changes
+        (record { operation = SetEach; places = take m (read .places); sizes = take m (read .sizes); keys = take m (read .keys) })
+        (now (pool .entry)) (now (text .entry)) (record { count = r; pool = now (pool .exit); text = now (text .exit) }) ⌝ }
+{
+    let keys = read.keys;
+    let places = read.places;
+    let sizes = read.sizes;
+    change(
+        pool,
+        &keys[..m],
+        &places[..m],
+        &sizes[..m],
+        Operation::SetEach,
+        text,
+    )
+}
+
+// The batch that a `drop` of `m` keys asks for.
+fn drop_keys(pool: &mut [u8], read: Reading, m: usize, text: &mut [u8]) -> usize
+    requires { ⌜ 89 ≤ length (now text) ⌝ }
+    requires { ⌜ m ≤ length (read .keys) ⌝ }
+    ensures { λ r. ⌜ Changes (record { operation = Remove; places = []; sizes = []; keys = take m (read .keys) })
+        (now (pool .entry)) (now (text .entry)) (record { count = r; pool = now (pool .exit); text = now (text .exit) }) ⌝ }
+{
+    let keys = read.keys;
+    let places = read.places;
+    let sizes = read.sizes;
+    change(
+        pool,
+        &keys[..m],
+        &places[..0],
+        &sizes[..0],
+        Operation::Remove,
+        text,
+    )
 }
 
 // One batch.

@@ -22,7 +22,10 @@ loop-again : tie.Need-loop-again Inv-loop μ-loop
 loop-again c = tt
 
 array-share-prefix-text : tie.Need-array-share-prefix-text Inv-loop μ-loop
-array-share-prefix-text c = let s = c .before .before .before .before .before .loop-test in let a = c .answer in answer-inside (ordered (held (record { count = s .kept; bytes = s .line }))) (s .pool) (replicate 4096 0) (record { count = a .result; pool = a .last .0; text = a .last .1 .1 .1 .0 }) (a .ensures)
+array-share-prefix-text c =
+    let s = c .before .before .before .before .before .loop-test in
+    let a = c .answer in
+    answer-inside (ordered (held (record { count = s .kept; bytes = s .line }))) (s .pool) (replicate 4096 0) (record { count = a .result; pool = a .last .0; text = a .last .1 .1 .1 .0 }) (a .ensures)
 
 slice-aggregate-write-all : tie.Need-slice-aggregate-write-all Inv-loop μ-loop
 slice-aggregate-write-all c = sym (length-take-le _ _ (let s = c .before .before .before .before .before .before .loop-test in let a = c .before .answer in answer-inside (ordered (held (record { count = s .kept; bytes = s .line }))) (s .pool) (replicate 4096 0) (record { count = a .result; pool = a .last .0; text = a .last .1 .1 .1 .0 }) (a .ensures)))

@@ -25,13 +25,25 @@ slice-aggregate-write-all : tie.Need-slice-aggregate-write-all Inv-loop μ-loop
 slice-aggregate-write-all c = sym (length-take-le _ _ (turn-inside _ _ _ _ _ (c .before .take-part .ensures)))
 
 add-from : tie.Need-add-from Inv-loop μ-loop
-add-from c = let part = c .before .before .before .before .before .before .before .before .before .before .before .before .args .part .now in let long = length-take-le (length part - c .before .before .before .before .before .before .before .before .before .before .loop .from) (drop (c .before .before .before .before .before .before .before .before .before .before .loop .from) part) (omega (arith, length-drop (c .before .before .before .before .before .before .before .before .before .before .loop .from) part)) in let takes = turn-takes _ _ _ _ _ (c .before .before .before .before .take-part .ensures) (omega (arith, long, c .before .before .before .before .before .before .before .before .before .loop-test .taken)) in search (needs, takes .0, takes .1, long)
+add-from c =
+    let part = c .before .before .before .before .before .before .before .before .before .before .before .before .args .part .now in
+    let long = length-take-le (length part - c .before .before .before .before .before .before .before .before .before .before .loop .from) (drop (c .before .before .before .before .before .before .before .before .before .before .loop .from) part) (omega (arith, length-drop (c .before .before .before .before .before .before .before .before .before .before .loop .from) part)) in
+    let takes = turn-takes _ _ _ _ _ (c .before .before .before .before .take-part .ensures) (omega (arith, long, c .before .before .before .before .before .before .before .before .before .loop-test .taken)) in
+    search (needs, takes .0, takes .1, long)
 
 loop-less : tie.Need-loop-less Inv-loop μ-loop
-loop-less c = let part = c .before .before .before .before .before .before .before .before .before .before .before .before .args .part .now in let long = length-take-le (length part - c .before .before .before .before .before .before .before .before .before .before .loop .from) (drop (c .before .before .before .before .before .before .before .before .before .before .loop .from) part) (omega (arith, length-drop (c .before .before .before .before .before .before .before .before .before .before .loop .from) part)) in let takes = turn-takes _ _ _ _ _ (c .before .before .before .before .take-part .ensures) (omega (arith, long, c .before .before .before .before .before .before .before .before .before .loop-test .taken)) in omega (arith, takes .0, takes .1, long)
+loop-less c =
+    let part = c .before .before .before .before .before .before .before .before .before .before .before .before .args .part .now in
+    let long = length-take-le (length part - c .before .before .before .before .before .before .before .before .before .before .loop .from) (drop (c .before .before .before .before .before .before .before .before .before .before .loop .from) part) (omega (arith, length-drop (c .before .before .before .before .before .before .before .before .before .before .loop .from) part)) in
+    let takes = turn-takes _ _ _ _ _ (c .before .before .before .before .take-part .ensures) (omega (arith, long, c .before .before .before .before .before .before .before .before .before .loop-test .taken)) in
+    omega (arith, takes .0, takes .1, long)
 
 loop-again : tie.Need-loop-again Inv-loop μ-loop
-loop-again c = let part = c .before .before .before .before .before .before .before .before .before .before .before .before .args .part .now in let long = length-take-le (length part - c .before .before .before .before .before .before .before .before .before .before .loop .from) (drop (c .before .before .before .before .before .before .before .before .before .before .loop .from) part) (omega (arith, length-drop (c .before .before .before .before .before .before .before .before .before .before .loop .from) part)) in let takes = turn-takes _ _ _ _ _ (c .before .before .before .before .take-part .ensures) (omega (arith, long, c .before .before .before .before .before .before .before .before .before .loop-test .taken)) in omega (arith, takes .0, takes .1, long)
+loop-again c =
+    let part = c .before .before .before .before .before .before .before .before .before .before .before .before .args .part .now in
+    let long = length-take-le (length part - c .before .before .before .before .before .before .before .before .before .before .loop .from) (drop (c .before .before .before .before .before .before .before .before .before .before .loop .from) part) (omega (arith, length-drop (c .before .before .before .before .before .before .before .before .before .before .loop .from) part)) in
+    let takes = turn-takes _ _ _ _ _ (c .before .before .before .before .take-part .ensures) (omega (arith, long, c .before .before .before .before .before .before .before .before .before .loop-test .taken)) in
+    omega (arith, takes .0, takes .1, long)
 
 pub serve-spec : {M : Type 1} → statement M
 serve-spec =

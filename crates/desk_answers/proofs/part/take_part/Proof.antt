@@ -6,10 +6,14 @@ use Rattle.desk_answers.proofs.part.take_part.Statement.{statement}
 use Rattle.desk_answers.proofs.part.take_part.Tie as tie
 
 returns : tie.Need-returns
-returns c = let a = c .before .before .before .before .before .args in line-goes-on (record { count = a .n; bytes = a .line .now }) _ _ _ _ _ (c .before .before .before .next-line .ensures) (c .if1 .taken) (c .before .keep .ensures)
+returns c =
+    let a = c .before .before .before .before .before .args in
+    line-goes-on (record { count = a .n; bytes = a .line .now }) _ _ _ _ _ (c .before .before .before .next-line .ensures) (c .if1 .taken) (c .before .keep .ensures)
 
 returns-2 : tie.Need-returns-2
-returns-2 c = let a = c .before .before .before .before .before .before .before .before .before .args in line-ends (record { count = a .n; bytes = a .line .now }) _ _ _ _ _ _ (c .before .before .before .before .before .before .before .next-line .ensures) (c .before .before .before .before .if1 .left) (c .before .before .before .before .before .keep .ensures) (c .answer .ensures)
+returns-2 c =
+    let a = c .before .before .before .before .before .before .before .before .before .args in
+    line-ends (record { count = a .n; bytes = a .line .now }) _ _ _ _ _ _ (c .before .before .before .before .before .before .before .next-line .ensures) (c .before .before .before .before .if1 .left) (c .before .before .before .before .before .keep .ensures) (c .answer .ensures)
 
 pub take-part-spec : {M : Type 1} → statement M
 take-part-spec =

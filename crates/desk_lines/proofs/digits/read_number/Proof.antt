@@ -19,10 +19,14 @@ returns-2 : tie.Need-returns-2 Inv-loop μ-loop
 returns-2 c = number-long _ _ _ _ (c .before .before .find .ensures .0) (c .if2 .taken)
 
 loop-holds : tie.Need-loop-holds Inv-loop μ-loop
-loop-holds c = let f = c .before .before .find .ensures in spelling _ _ _ _ (f .0) (f .1) (λ e. c .before .if1 .left (sym e)) (f .2) (c .if2 .left)
+loop-holds c =
+    let f = c .before .before .find .ensures in
+    spelling _ _ _ _ (f .0) (f .1) (λ e. c .before .if1 .left (sym e)) (f .2) (c .if2 .left)
 
 returns-3 : tie.Need-returns-3 Inv-loop μ-loop
-returns-3 c = let s = c .before .before .before .before .loop .inv in spelt-bad s (c .before .before .before .loop-test .taken) (subst (λ n. 16 ≤ n) (c .before .value-of .ensures .0) (c .if3 .taken))
+returns-3 c =
+    let s = c .before .before .before .before .loop .inv in
+    spelt-bad s (c .before .before .before .loop-test .taken) (subst (λ n. 16 ≤ n) (c .before .value-of .ensures .0) (c .if3 .taken))
 
 mul-value : tie.Need-mul-value Inv-loop μ-loop
 mul-value c = search (needs, spelt-small (c .before .before .before .before .loop .inv) (c .before .before .before .loop-test .taken) (c .before .before .before .before .before .before .before .before .before .pre .1))

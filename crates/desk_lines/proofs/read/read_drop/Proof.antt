@@ -9,7 +9,9 @@ returns : tie.Need-returns
 returns c = c .no-rows .ensures ∙ drop-bad _ _ _ _ _ (c .before .before .before .before .before .read-rows .ensures .0) (c .before .if1 .taken)
 
 returns-2 : tie.Need-returns-2
-returns-2 c = let e = c .before .before .before .before .read-rows .ensures in drop-good _ _ _ _ _ (e .0) (c .if1 .left) (e .1 .1 .0) (e .1 .0) (e .1 .1 .1 (c .if1 .left)) _ refl
+returns-2 c =
+    let e = c .before .before .before .before .read-rows .ensures in
+    drop-good _ _ _ _ _ (e .0) (c .if1 .left) (e .1 .1 .0) (e .1 .0) (e .1 .1 .1 (c .if1 .left)) _ refl
 
 pub read-drop-spec : {M : Type 1} → statement M
 read-drop-spec =

@@ -15,16 +15,22 @@ read-set-requires : tie.Need-read-set-requires
 read-set-requires c κs = (begins-long set-word _ (sym (c .before .starts .ensures) ∙ c .if2 .taken), omega (arith, c .before .before .before .if1 .left))
 
 returns-2 : tie.Need-returns-2
-returns-2 c = let l = c .before .before .before .before .before .before .args .line .now in c .read-set .ensures ∙ ap readingOf (sym (short l (c .before .before .before .before .if1 .left) ∙ asks-set l (sym (c .before .before .starts .ensures) ∙ c .before .if2 .taken)))
+returns-2 c =
+    let l = c .before .before .before .before .before .before .args .line .now in
+    c .read-set .ensures ∙ ap readingOf (sym (short l (c .before .before .before .before .if1 .left) ∙ asks-set l (sym (c .before .before .starts .ensures) ∙ c .before .if2 .taken)))
 
 read-drop-requires : tie.Need-read-drop-requires
 read-drop-requires c κs = (begins-long drop-word _ (sym (c .before .starts2 .ensures) ∙ c .if3 .taken), omega (arith, c .before .before .before .before .before .before .if1 .left))
 
 returns-3 : tie.Need-returns-3
-returns-3 c = let l = c .before .before .before .before .before .before .before .before .before .args .line .now in c .read-drop .ensures ∙ ap readingOf (sym (short l (c .before .before .before .before .before .before .before .if1 .left) ∙ asks-drop l (sym (c .before .before .before .before .before .starts .ensures) ∙ c .before .before .before .before .if2 .left) (sym (c .before .before .starts2 .ensures) ∙ c .before .if3 .taken)))
+returns-3 c =
+    let l = c .before .before .before .before .before .before .before .before .before .args .line .now in
+    c .read-drop .ensures ∙ ap readingOf (sym (short l (c .before .before .before .before .before .before .before .if1 .left) ∙ asks-drop l (sym (c .before .before .before .before .before .starts .ensures) ∙ c .before .before .before .before .if2 .left) (sym (c .before .before .starts2 .ensures) ∙ c .before .if3 .taken)))
 
 returns-4 : tie.Need-returns-4
-returns-4 c = let l = c .before .before .before .before .before .before .before .before .before .before .before .before .before .args .line .now in c .no-rows2 .ensures ∙ ap readingOf (sym (short l (c .before .before .before .before .before .before .before .before .before .before .before .if1 .left) ∙ asks-dump l (sym (c .before .before .before .before .before .before .before .before .before .starts .ensures) ∙ c .before .before .before .before .before .before .before .before .if2 .left) (sym (c .before .before .before .before .before .before .starts2 .ensures) ∙ c .before .before .before .before .before .if3 .left) (sym (c .before .before .before .starts3 .ensures) ∙ c .before .before .if4 .taken) (c .before .if5 .taken)))
+returns-4 c =
+    let l = c .before .before .before .before .before .before .before .before .before .before .before .before .before .args .line .now in
+    c .no-rows2 .ensures ∙ ap readingOf (sym (short l (c .before .before .before .before .before .before .before .before .before .before .before .if1 .left) ∙ asks-dump l (sym (c .before .before .before .before .before .before .before .before .before .starts .ensures) ∙ c .before .before .before .before .before .before .before .before .if2 .left) (sym (c .before .before .before .before .before .before .starts2 .ensures) ∙ c .before .before .before .before .before .if3 .left) (sym (c .before .before .before .starts3 .ensures) ∙ c .before .before .if4 .taken) (c .before .if5 .taken)))
 
 returns-5 : tie.Need-returns-5
 returns-5 c =

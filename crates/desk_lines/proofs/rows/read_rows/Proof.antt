@@ -28,7 +28,9 @@ same-length-3 : tie.Need-same-length-3 Inv-loop μ-loop
 same-length-3 c = c .before .before .before .before .loop .inv .lends .sizes ∙ sym (c .before .before .before .before .before .before .before .before .before .pre .0 .sizes)
 
 returns : tie.Need-returns Inv-loop μ-loop
-returns c = let s = c .before .before .before .before .loop .inv in (rows-bad s (subst (RowAt _ _ _) (c .enum-told .given .1) (c .before .before .read-row .ensures)), (s .lends, (omega arith, λ no. absurd (no refl))))
+returns c =
+    let s = c .before .before .before .before .loop .inv in
+    (rows-bad s (subst (RowAt _ _ _) (c .enum-told .given .1) (c .before .before .read-row .ensures)), (s .lends, (omega arith, λ no. absurd (no refl))))
 
 slice-write-keys : tie.Need-slice-write-keys Inv-loop μ-loop
 slice-write-keys c = search (needs, c .before .before .before .before .before .loop .inv .lends)
@@ -43,7 +45,9 @@ add-at : tie.Need-add-at Inv-loop μ-loop
 add-at c = let g = subst (RowAt _ _ _) (c .before .key .given .1) (c .before .before .before .read-row .ensures) in search (needs, g .2)
 
 loop-less : tie.Need-loop-less Inv-loop μ-loop
-loop-less c = let g = subst (RowAt _ _ _) (c .before .key .given .1) (c .before .before .before .read-row .ensures) in omega (arith, g .1, g .2)
+loop-less c =
+    let g = subst (RowAt _ _ _) (c .before .key .given .1) (c .before .before .before .read-row .ensures) in
+    omega (arith, g .1, g .2)
 
 loop-again : tie.Need-loop-again Inv-loop μ-loop
 loop-again c = let s = c .before .before .before .before .before .loop .inv in

@@ -7,10 +7,16 @@ use Rattle.desk_lines.proofs.rows.read_triple.Statement.{statement}
 use Rattle.desk_lines.proofs.rows.read_triple.Tie as tie
 
 next-number-requires : tie.Need-next-number-requires
-next-number-requires c κs = let a = c .before .before .before .before .before .args in let g = subst (NumberAt (a .line .now) (a .at) 16) (c .before .key .given .1) (c .before .before .before .read-number .ensures) in (g .3, omega arith)
+next-number-requires c κs =
+    let a = c .before .before .before .before .before .args in
+    let g = subst (NumberAt (a .line .now) (a .at) 16) (c .before .key .given .1) (c .before .before .before .read-number .ensures) in
+    (g .3, omega arith)
 
 next-number-requires-2 : tie.Need-next-number-requires-2
-next-number-requires-2 c κs = let a = c .before .before .before .before .before .before .before .before .before .args in let g = subst (NextAt (a .line .now) _ 16) (c .before .place .given .1) (c .before .before .before .next-number .ensures) in (g .3, omega arith)
+next-number-requires-2 c κs =
+    let a = c .before .before .before .before .before .before .before .before .before .args in
+    let g = subst (NextAt (a .line .now) _ 16) (c .before .place .given .1) (c .before .before .before .next-number .ensures) in
+    (g .3, omega arith)
 
 cast-t15 : tie.Need-cast-t15
 cast-t15 c =
