@@ -1,5 +1,5 @@
 // Whether an answer is the one that is wanted.
-use frame::WriteAnswer;
+use frame_text::WriteAnswer;
 use index::BatchAnswer;
 use index::GetAnswer;
 use index::ScanAnswer;

@@ -1,8 +1,8 @@
 // Readings that document 01 leaves open, with the reasons in docs/DECISIONS.md: the same that are proved of the model.
 use crate::expect;
 use crate::pools;
-use frame::ReadAnswer;
-use frame::WriteAnswer;
+use frame_text::ReadAnswer;
+use frame_text::WriteAnswer;
 use model::Action;
 use model::Bound;
 use model::Direction;

@@ -14,7 +14,7 @@ use Rattle.desk_text.specs.Texts.{over as put}
 use Rattle.desk_text.proofs.Overs.{length-over}
 use Rattle.desk_lines.specs.Lines.{onto, linesOf, upTo, firstLine}
 use Rattle.desk_lines.specs.Parts.{longest, Kept, whole, tooLong, kept, joined, Place, held, keeping}
-use Rattle.desk_lines.specs.Orders.{Wanted, set, drops, dump, malformed, ordered}
+use Rattle.desk_orders.specs.Orders.{Wanted, set, drops, dump, malformed, ordered}
 use Rattle.desk_lines.proofs.Finds.{up-to-take, up-to-length}
 use Rattle.desk_lines.proofs.Keeps.{keeps-the-parts, cut-anyhow}
 use Rattle.tree.specs.Pool.{settingsIn, indexOf, imageOf}

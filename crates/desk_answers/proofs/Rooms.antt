@@ -12,9 +12,9 @@ use Rattle.model.specs.Frame.{Frame, leaf, interior, nodesIn, branches, inTurn,
 use Rattle.model.specs.Sound.{Whole, Sound}
 use Rattle.model.proofs.Lists.{all-append, all-head, all-tail, all-map}
 use Rattle.model.proofs.Trees.{root-few, once-count}
-use Rattle.frame.specs.Entries.{startOf}
-use Rattle.frame.specs.Contents.{ofEntry, ofBranch, contentsOf}
-use Rattle.frame.proofs.Coded.{line-long}
+use Rattle.frame_text.specs.Entries.{startOf}
+use Rattle.frame_text.specs.Contents.{ofEntry, ofBranch, contentsOf}
+use Rattle.frame_text.proofs.Coded.{line-long}
 use Rattle.frame.proofs.Noded.{frame-contents}
 use Rattle.frame.proofs.Walks.{frames-long}
 use Rattle.tree.specs.Pool.{SoundPool, settingsIn, indexOf}

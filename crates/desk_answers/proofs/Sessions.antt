@@ -24,8 +24,8 @@ use Rattle.index.proofs.Unique.{where-unique}
 use Rattle.index.proofs.Register.{by-sound}
 use Rattle.desk_lines.specs.Lines.{linesOf}
 use Rattle.desk_lines.specs.Parts.{Kept, kept}
-use Rattle.desk_lines.specs.Orders.{Wanted, set, drops, dump, malformed, ordered, wanted}
-use Rattle.desk_lines.proofs.Bounds.{WantedFits, wanted-fits}
+use Rattle.desk_orders.specs.Orders.{Wanted, set, drops, dump, malformed, ordered, wanted}
+use Rattle.desk_orders.proofs.Bounds.{WantedFits, wanted-fits}
 use Rattle.desk_answers.specs.Replies.{Reply, refusing, batchReply, reply, setCall, dropCall}
 use Rattle.desk_answers.specs.Program.{desk, answered, answers, program}
 use Rattle.desk_answers.specs.Promise.{Outcome, outcome, Answers, Session, rest, next, WritesTheProgram, OneAnswer}

@@ -17,12 +17,12 @@ use Rattle.model.specs.Frame.{Frame, framesOf, lineOf, written}
 use Rattle.model.proofs.Answers.{refused-done}
 use Rattle.model.proofs.Lists.{parts-append}
 use Rattle.tree.specs.Pool.{SoundPool, indexOf}
-use Rattle.frame.specs.declared.WriteAnswer.{WriteAnswer}
-use Rattle.frame.specs.declared.WriteAnswer.the-variants as Write
+use Rattle.frame_text.specs.declared.WriteAnswer.{WriteAnswer}
+use Rattle.frame_text.specs.declared.WriteAnswer.the-variants as Write
 use Rattle.index.specs.Promise.{Where, holds, fails, Left, _leaving_, leaves, Frames}
 use Rattle.desk_text.specs.Texts.{over, refusedText}
 use Rattle.desk_text.proofs.Overs.{Put, behind, put-length, over-first}
-use Rattle.desk_lines.specs.Orders.{dump}
+use Rattle.desk_orders.specs.Orders.{dump}
 use Rattle.desk_answers.specs.Replies.{frameText, dumpText, refusing}
 use Rattle.desk_answers.specs.Promise.{Outcome, outcome, Replies}
 use Rattle.desk_answers.proofs.Rooms.{frames-16, frames-fit}

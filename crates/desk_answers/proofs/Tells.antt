@@ -19,12 +19,12 @@ use Rattle.index.specs.declared.BatchAnswer.the-variants as Batch
 use Rattle.index.specs.Promise.{Where, holds, fails, Left, _leaving_, leaves, Batches}
 use Rattle.desk_text.specs.Texts.{over, doneText, refusedText}
 use Rattle.desk_text.proofs.Overs.{over-first}
-use Rattle.desk_lines.specs.declared.Reading.{Reading}
-use Rattle.desk_lines.specs.declared.Order.{Order}
-use Rattle.desk_lines.specs.declared.Order.the-variants as Read
+use Rattle.desk_orders.specs.declared.Reading.{Reading}
+use Rattle.desk_orders.specs.declared.Order.{Order}
+use Rattle.desk_orders.specs.declared.Order.the-variants as Read
 use Rattle.desk_lines.specs.Parts.{longest, Place, held}
-use Rattle.desk_lines.specs.Orders.{Wanted, set, drops, dump, malformed, ordered, wanted, asked, placed, readingOf}
-use Rattle.desk_lines.proofs.Asks.{short}
+use Rattle.desk_orders.specs.Orders.{Wanted, set, drops, dump, malformed, ordered, wanted, asked, placed, readingOf}
+use Rattle.desk_orders.proofs.Asks.{short}
 use Rattle.desk_answers.specs.Replies.{Reply, refusing, batchReply, reply, malformed-line, setCall, dropCall}
 use Rattle.desk_answers.specs.Promise.{Outcome, outcome, Changes, Replies, Answers}
 

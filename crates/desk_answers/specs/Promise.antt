@@ -11,7 +11,7 @@ use Rattle.tree.specs.Pool.{SoundPool, settingsIn, indexOf, imageOf}
 use Rattle.index.specs.Promise.{Where}
 use Rattle.desk_lines.specs.Lines.{linesOf}
 use Rattle.desk_lines.specs.Parts.{Kept, kept}
-use Rattle.desk_lines.specs.Orders.{Wanted, set, drops, dump, malformed, ordered}
+use Rattle.desk_orders.specs.Orders.{Wanted, set, drops, dump, malformed, ordered}
 use Rattle.desk_answers.specs.Replies.{Reply, refusing, batchReply, reply, malformed-line}
 use Rattle.desk_answers.specs.Program.{desk, program}
 

@@ -10,7 +10,7 @@ use Rattle.model.specs.Change.{Batched}
 use Rattle.model.specs.Answer.{Answer, refused, done}
 use Rattle.model.specs.Refuse.{Call, answer}
 use Rattle.model.specs.Frame.{Frame, framesOf, lineOf}
-use Rattle.desk_lines.specs.Orders.{Wanted, set, drops, dump, malformed}
+use Rattle.desk_orders.specs.Orders.{Wanted, set, drops, dump, malformed}
 use Rattle.desk_text.specs.Texts.{doneText, refusedText, line-feed}
 
 -- a malformed or too long line is refused by this number

@@ -7,7 +7,7 @@ use lib.ListN.{length, take, drop}
 use Rattle.model.specs.Lists.{concat}
 use Rattle.desk_lines.specs.Lines.{firstLine}
 use Rattle.desk_lines.specs.Parts.{longest, Place, held, keeping}
-use Rattle.desk_lines.specs.Orders.{ordered}
+use Rattle.desk_orders.specs.Orders.{ordered}
 use Rattle.desk_answers.specs.Program.{program}
 use Rattle.desk_answers.specs.Promise.{opened, Outcome, Answers}
 

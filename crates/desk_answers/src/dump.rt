@@ -1,10 +1,9 @@
 // All frames of a pool, one to a line.
 ghost use mathlib.Core.Path.{_≡_};
-ghost use Prim.Native.Nat.{_≤_};
 ghost use lib.ListN.{length};
-ghost use Rattle.desk_lines.specs.Orders.{dump as dump-order};
+ghost use Rattle.desk_orders.specs.Orders.{dump as dump-order};
 ghost use Rattle.desk_answers.specs.Promise.{Replies};
-use frame::WriteAnswer;
+use frame_text::WriteAnswer;
 
 // The number of a frame that is not there.
 const NO_NODE: u32 = 14;

@@ -4,15 +4,15 @@ ghost use Prim.Native.Nat.{_≤_};
 ghost use mathlib.Core.List.{[]};
 ghost use lib.ListN.{length, take};
 ghost use Rattle.model.specs.declared.Operation.the-variants.{SetEach, Remove};
-ghost use Rattle.desk_lines.specs.Orders.{ordered};
+ghost use Rattle.desk_orders.specs.Orders.{ordered};
 ghost use Rattle.desk_lines.specs.Parts.{held};
-ghost use Rattle.desk_answers.specs.Promise.{opened, Answers, Changes, Replies};
+ghost use Rattle.desk_answers.specs.Promise.{opened, Answers, Changes};
 
 mod dump; // all frames
 mod part; // the next part of a line
 
-use desk_lines::Order;
-use desk_lines::Reading;
+use desk_orders::Order;
+use desk_orders::Reading;
 use dump::dump;
 use index::BatchAnswer;
 use model::Operation;
@@ -45,7 +45,7 @@ pub fn answer(pool: &mut [u8; 3360], line: &[u8; 255], n: usize, text: &mut [u8;
         return desk_text::say_refused(text, MALFORMED);
     }
     let bytes: &[u8] = line;
-    let read = desk_lines::read_order(&bytes[..n]);
+    let read = desk_orders::read_order(&bytes[..n]);
     let order = read.order;
     match order {
         Order::Set(m) => set_rows(pool, read, m, text),

@@ -1,5 +1,4 @@
 // A turn of the program: the next part of a line.
-ghost use mathlib.Core.Path.{_≡_};
 ghost use Rattle.desk_answers.specs.Turns.{Turns};
 use crate::answer;
 

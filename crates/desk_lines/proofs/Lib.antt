@@ -1,9 +1,3 @@
--- `Finds`: a byte looked for. `Keeps`: a line that comes in parts. `Spelt`: the digits of a number. `Fields`: a line field by field. `Begins`: the
--- first word. `Asks`: what it asks for. `Bounds`: that its numbers are what their types can hold.
+-- `Finds`: a byte looked for. `Keeps`: a line that comes in parts.
 pub mod Finds
 pub mod Keeps
-pub mod Spelt
-pub mod Fields
-pub mod Begins
-pub mod Asks
-pub mod Bounds

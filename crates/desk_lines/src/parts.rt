@@ -1,6 +1,6 @@
 // A line that comes in parts. 255 bytes of it are kept at most; a count above 255 says that the line is too long.
 ghost use mathlib.Core.Path.{_≡_};
-ghost use Rattle.desk_lines.specs.Parts.{Place, keeping};
+ghost use Rattle.desk_lines.specs.Parts.{keeping};
 
 // The most bytes of a line, its line feed not counted.
 pub const LONGEST: usize = 255;

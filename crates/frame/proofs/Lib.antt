@@ -1,9 +1,4 @@
--- `Lines` is of writing, `Spelt` of reading, `Coded` of both kinds of entry, `Told` of answers, `Walks` and `Noded` of a pool's nodes, `Undoes`
--- of writing and reading together.
-mod Lines
-mod Spelt
-pub mod Coded
-mod Told
+-- `Walks` and `Noded` are of a pool's nodes, `Undoes` of writing and reading together.
 pub mod Walks
 pub mod Noded
 pub mod Undoes

@@ -8,8 +8,8 @@ use native.Mathlib.Numerals.{add-one}
 use lib.ListN.{length, take, drop, getD, getElem?, length-append}
 use lib.Seq.{take-suc}
 use Rattle.words.specs.Words.{words}
-use Rattle.slots.specs.declared.Row.{Row}
-use Rattle.slots.specs.Slots.{blank}
+use Rattle.slots_raw.specs.declared.Row.{Row}
+use Rattle.slots_raw.specs.Slots.{blank}
 use Rattle.slots.specs.Nodes.{nodes, nth}
 use Rattle.slots.specs.Nodes as S
 use Rattle.slots.proofs.Nodes.{length-nodes}
@@ -28,18 +28,18 @@ use Rattle.tree.proofs.Few.{used-few, entries-most, slots-low}
 use Rattle.tree.proofs.Fitting.{nodesOf-fit}
 use Rattle.tree.proofs.NodesOf.{held-nodesOf}
 use Rattle.tree.proofs.Pools.{sound-held, sound-holds-index, sound-index}
-use Rattle.frame.specs.declared.FrameEntry.{FrameEntry}
-use Rattle.frame.specs.declared.Kind.the-variants.{Leaf, Interior}
-use Rattle.frame.specs.declared.Contents.{Contents}
+use Rattle.frame_text.specs.declared.FrameEntry.{FrameEntry}
+use Rattle.frame_text.specs.declared.Kind.the-variants.{Leaf, Interior}
+use Rattle.frame_text.specs.declared.Contents.{Contents}
 use Rattle.frame.specs.declared.Found.{Found}
 use Rattle.frame.specs.declared.Found.the-variants.{Node, Left}
-use Rattle.frame.specs.declared.WriteAnswer.{WriteAnswer}
-use Rattle.frame.specs.declared.WriteAnswer.the-variants as Write
-use Rattle.frame.specs.Contents as C
-use Rattle.frame.specs.Contents.{ofEntry, branchOf, ofBranch, held, frameOf, contentsOf}
-use Rattle.frame.specs.Answers.{Writes}
+use Rattle.frame_text.specs.declared.WriteAnswer.{WriteAnswer}
+use Rattle.frame_text.specs.declared.WriteAnswer.the-variants as Write
+use Rattle.frame_text.specs.Contents as C
+use Rattle.frame_text.specs.Contents.{ofEntry, branchOf, ofBranch, held, frameOf, contentsOf}
+use Rattle.frame_text.specs.Answers.{Writes}
 use Rattle.frame.specs.Walk.{itemAt, entryFor, kindAt, frameAt, Standing, Finds}
-use Rattle.frame.proofs.Coded.{frame-held}
+use Rattle.frame_text.proofs.Coded.{frame-held}
 use Rattle.frame.proofs.Walks.{passed, frames-long, elem-past}
 
 -- THE ENTRIES OF SOME ROWS, children numbered from n

@@ -20,14 +20,14 @@ use Rattle.model.proofs.Frames.{read-written, write-read, read-fits}
 use Rattle.model.proofs.Readable.{frames-read}
 use Rattle.tree.specs.Pool.{indexOf, settingsIn}
 use Rattle.tree.proofs.Pools.{sound-index}
-use Rattle.frame.specs.declared.Contents.{Contents}
-use Rattle.frame.specs.declared.WriteAnswer.{WriteAnswer}
-use Rattle.frame.specs.declared.WriteAnswer.the-variants as Write
-use Rattle.frame.specs.declared.ReadAnswer.{ReadAnswer}
-use Rattle.frame.specs.declared.ReadAnswer.the-variants as Read
-use Rattle.frame.specs.declared.Reading.{Reading}
-use Rattle.frame.specs.Contents.{frameOf, contentsOf}
-use Rattle.frame.specs.Answers.{lengthTold, lengthIn, lineAfter, Writes, frameTold, Reads}
+use Rattle.frame_text.specs.declared.Contents.{Contents}
+use Rattle.frame_text.specs.declared.WriteAnswer.{WriteAnswer}
+use Rattle.frame_text.specs.declared.WriteAnswer.the-variants as Write
+use Rattle.frame_text.specs.declared.ReadAnswer.{ReadAnswer}
+use Rattle.frame_text.specs.declared.ReadAnswer.the-variants as Read
+use Rattle.frame_text.specs.declared.Reading.{Reading}
+use Rattle.frame_text.specs.Contents.{frameOf, contentsOf}
+use Rattle.frame_text.specs.Answers.{lengthTold, lengthIn, lineAfter, Writes, frameTold, Reads}
 use Rattle.frame.specs.Undo.{OneWritten, OneRead, readAs, ReadsWritten, ReadsNode, WritesRead}
 
 -- ONE ANSWER

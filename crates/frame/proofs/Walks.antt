@@ -7,8 +7,8 @@ use native.Mathlib.Omega.{arith}
 use native.Mathlib.Numerals.{add-one}
 use lib.ListN.{length, take, drop, getD, getElem?, length-append, take-append-drop}
 use lib.Seq.{take-suc, take-all}
-use Rattle.slots.specs.declared.Row.{Row}
-use Rattle.slots.specs.Slots.{blank}
+use Rattle.slots_raw.specs.declared.Row.{Row}
+use Rattle.slots_raw.specs.Slots.{blank}
 use Rattle.slots.specs.Nodes.{nodes, nth, At}
 use Rattle.slots.specs.Nodes as S
 use Rattle.model.specs.declared.Settings.{Settings}

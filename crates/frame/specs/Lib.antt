@@ -1,8 +1,3 @@
--- `Contents` says what a kind and entries by value are, `Answers` what writing and reading promise, `Digits` how a line spells bytes, `Entries`
--- which bytes an entry has, `Walk` what a walk over a pool's slots finds, `Undo` what follows from the promises.
-pub mod Contents
-pub mod Answers
-pub mod Digits
-pub mod Entries
+-- `Walk` says what a walk over a pool's slots finds, `Undo` what follows from the promises of writing and reading.
 pub mod Walk
 pub mod Undo

@@ -10,13 +10,13 @@ use Rattle.model.specs.Frame.{Frame, framesOf, writeFrame, writeNode}
 use Rattle.model.specs.ReadFrame.{readLine}
 use Rattle.model.specs.Sound.{FrameFits}
 use Rattle.tree.specs.Pool.{indexOf, SoundPool}
-use Rattle.frame.specs.declared.Contents.{Contents}
-use Rattle.frame.specs.declared.WriteAnswer.{WriteAnswer}
-use Rattle.frame.specs.declared.WriteAnswer.the-variants as Write
-use Rattle.frame.specs.declared.ReadAnswer.the-variants as Read
-use Rattle.frame.specs.declared.Reading.{Reading}
-use Rattle.frame.specs.Contents.{frameOf, contentsOf}
-use Rattle.frame.specs.Answers.{Writes, Reads}
+use Rattle.frame_text.specs.declared.Contents.{Contents}
+use Rattle.frame_text.specs.declared.WriteAnswer.{WriteAnswer}
+use Rattle.frame_text.specs.declared.WriteAnswer.the-variants as Write
+use Rattle.frame_text.specs.declared.ReadAnswer.the-variants as Read
+use Rattle.frame_text.specs.declared.Reading.{Reading}
+use Rattle.frame_text.specs.Contents.{frameOf, contentsOf}
+use Rattle.frame_text.specs.Answers.{Writes, Reads}
 
 -- ONE ANSWER
 

@@ -4,7 +4,7 @@ use mathlib.Core.List.{List}
 use mathlib.Core.Option.{some}
 use Prim.Native.Nat.{ℕ, zero, suc, _+_, _≤_, _<_}
 use lib.ListN.{length, getElem?}
-use Rattle.slots.specs.declared.Row.{Row}
+use Rattle.slots_raw.specs.declared.Row.{Row}
 use Rattle.slots.specs.Nodes.{Held, nodes, nth}
 use Rattle.slots.specs.Nodes as S
 use Rattle.model.specs.declared.Settings.{Settings}
@@ -13,12 +13,12 @@ use Rattle.model.specs.Tree.{Item, Tree, entries, slots}
 use Rattle.model.specs.Frame.{Frame, leaf, interior, branches, framesFrom}
 use Rattle.model.specs.Sound.{Fits}
 use Rattle.tree.specs.Bridge.{entryOf, childOf, childTotals, treeAt, Holds}
-use Rattle.frame.specs.declared.Kind.{Kind}
-use Rattle.frame.specs.declared.Kind.the-variants.{Leaf, Interior}
-use Rattle.frame.specs.declared.FrameEntry.{FrameEntry}
+use Rattle.frame_text.specs.declared.Kind.{Kind}
+use Rattle.frame_text.specs.declared.Kind.the-variants.{Leaf, Interior}
+use Rattle.frame_text.specs.declared.FrameEntry.{FrameEntry}
 use Rattle.frame.specs.declared.Found.{Found}
 use Rattle.frame.specs.declared.Found.the-variants.{Node, Left}
-use Rattle.frame.specs.Contents.{ofEntry, ofBranch}
+use Rattle.frame_text.specs.Contents.{ofEntry, ofBranch}
 
 -- ROWS
 

@@ -3,28 +3,28 @@ ghost use mathlib.Core.Path.{_≡_};
 ghost use Prim.Native.Nat.{_≤_, _<_};
 ghost use lib.ListN.{length, getD};
 ghost use Rattle.words.specs.Words.{words};
-ghost use Rattle.slots.specs.Slots.{blank};
+ghost use Rattle.slots_raw.specs.Slots.{blank};
 ghost use Rattle.slots.specs.Nodes.{nodes, rowsAt};
 ghost use Rattle.model.specs.Frame.{writeNode, nodesIn};
 ghost use Rattle.tree.specs.Bridge.{treeAt};
 ghost use Rattle.tree.specs.Pool.{SoundPool, settingsIn, indexOf};
-ghost use Rattle.frame.specs.Contents.{contentsOf};
-ghost use Rattle.frame.specs.Answers.{Writes};
+ghost use Rattle.frame_text.specs.Contents.{contentsOf};
+ghost use Rattle.frame_text.specs.Answers.{Writes};
 ghost use Rattle.frame.specs.Walk.{Standing, itemAt, kindAt, entryFor, frameAt};
-use crate::Contents;
 use crate::Found;
-use crate::FrameEntry;
-use crate::Kind;
-use crate::WriteAnswer;
-use crate::entries::branch;
-use crate::entries::leaf_entry;
-use crate::entries::no_entry;
-use crate::walk::child_at;
-use crate::walk::find;
-use crate::walk::nodes_in;
-use crate::writer::put_frame;
+use crate::preorder::child_at;
+use crate::preorder::find;
+use crate::preorder::nodes_in;
+use frame_text::Contents;
+use frame_text::FrameEntry;
+use frame_text::Kind;
+use frame_text::WriteAnswer;
+use frame_text::branch;
+use frame_text::leaf_entry;
+use frame_text::no_entry;
+use frame_write::put_frame;
 use model::Settings;
-use slots::Row;
+use slots_raw::Row;
 
 // Writes the frame of node `i` in preorder, or refuses with 14 or 16. The settings and the height are the pool's own.
 pub fn write_node(
@@ -89,7 +89,7 @@ fn entry_for(row: Row, height: usize, child: usize) -> FrameEntry
     if height == 0 {
         return leaf_entry(row.key, row.body, row.size as u32);
     }
-    branch(row.key, child as u32, tree::child_totals(row))
+    branch(row.key, child as u32, tree_rows::child_totals(row))
 }
 
 // How many nodes row `j` stands for: those of a child, and none in a leaf.

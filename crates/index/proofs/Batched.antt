@@ -8,7 +8,7 @@ use lib.ListN.{length}
 use borrow.Author.Tests.{not-false}
 use Rattle.words.specs.Words.{words}
 use Rattle.words.proofs.Laws.{Bytes}
-use Rattle.slots.specs.Header.{settingsOf}
+use Rattle.slots_pool.specs.Header.{settingsOf}
 use Rattle.slots.specs.Nodes.{nodes}
 use Rattle.model.specs.declared.Settings.{Settings}
 use Rattle.model.specs.declared.Counts.{Counts}
@@ -24,10 +24,10 @@ use Rattle.tree.specs.Pool.{SoundPool, settingsIn, nodesIn, indexOf, imageOf}
 use Rattle.tree.proofs.Pools.{sound-held, sound-index, sound-header, sound-holds-index, held-bytes}
 use Rattle.survey.specs.declared.Findings.{Findings}
 use Rattle.survey.specs.Surveyed.{Surveyed}
-use Rattle.root.specs.Batch.{indexAt, Accepted, Changed}
+use Rattle.batch_root.specs.Batch.{indexAt, Accepted, Changed}
 use Rattle.index.specs.declared.BatchAnswer.the-variants as Batch
 use Rattle.index.specs.Promise.{holds, fails, Left, _leaving_, leaves, Batches}
-use Rattle.index.specs.Refusals.{Refuses}
+use Rattle.index_refuse.specs.Refusals.{Refuses}
 
 module _ (c : Call) (l : List ℕ) where
   pub batch-unsound : (SoundPool l → ⊥) → Batches c l (Batch.Refused 2) l

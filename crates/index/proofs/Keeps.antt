@@ -7,7 +7,7 @@ use mathlib.Core.List.{List, _++_}
 use lib.ListN.{length, drop}
 use Rattle.words.specs.Words.{words}
 use Rattle.words.proofs.Laws.{length-words}
-use Rattle.slots.specs.Header.{settingsOf}
+use Rattle.slots_pool.specs.Header.{settingsOf}
 use Rattle.model.specs.declared.Settings.{Settings}
 use Rattle.model.specs.declared.Totals.{Totals}
 use Rattle.model.specs.Tree.{totalsOf}
@@ -20,14 +20,14 @@ use Rattle.model.proofs.Answers.{told-no}
 use Rattle.tree.specs.Pool.{SoundPool, settingsIn, indexOf}
 use Rattle.survey.specs.declared.Findings.{Findings}
 use Rattle.survey.specs.Surveyed.{Surveyed}
-use Rattle.look.specs.declared.Listed.{Listed}
-use Rattle.look.specs.declared.Scanned as Told
-use Rattle.look.specs.Output.{roomIn}
+use Rattle.look_output.specs.declared.Listed.{Listed}
+use Rattle.look_scan.specs.declared.Scanned as Told
+use Rattle.look_output.specs.Output.{roomIn}
 use Rattle.look.specs.Calls.{InPool, Writes}
-use Rattle.frame.specs.declared.WriteAnswer.{WriteAnswer}
-use Rattle.frame.specs.declared.WriteAnswer.the-variants as Write
-use Rattle.frame.specs.Answers.{lengthIn, lineAfter}
-use Rattle.frame.specs.Answers as Line
+use Rattle.frame_text.specs.declared.WriteAnswer.{WriteAnswer}
+use Rattle.frame_text.specs.declared.WriteAnswer.the-variants as Write
+use Rattle.frame_text.specs.Answers.{lengthIn, lineAfter}
+use Rattle.frame_text.specs.Answers as Line
 use Rattle.index.specs.declared.TotalsAnswer.the-variants as Totalled
 use Rattle.index.specs.declared.GetAnswer.the-variants as Get
 use Rattle.index.specs.declared.ScanAnswer.the-variants as Scan

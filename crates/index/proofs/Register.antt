@@ -21,7 +21,7 @@ use Rattle.model.proofs.Demands as M
 use Rattle.model.proofs.Calls.{new-sound}
 use Rattle.tree.specs.Pool.{SoundPool, settingsIn, indexOf, imageOf}
 use Rattle.tree.proofs.Pools.{sound-index, image-sound, image-index, image-settings}
-use Rattle.look.specs.Output.{roomIn}
+use Rattle.look_output.specs.Output.{roomIn}
 use Rattle.index.specs.declared.BatchAnswer.{BatchAnswer}
 use Rattle.index.specs.declared.BatchAnswer.the-variants as Batch
 use Rattle.index.specs.Promise.{Where, holds, fails, Left, _leaving_, leaves, unsound, Batches, batched, written, listed}

@@ -7,7 +7,7 @@ use Rattle.model.specs.Answer.{Answer, refused, done}
 use Rattle.model.specs.Look.{Request}
 use Rattle.model.specs.Refuse.{Call}
 use Rattle.model.proofs.Answers.{refused-done}
-use Rattle.frame.specs.declared.WriteAnswer.{WriteAnswer}
+use Rattle.frame_text.specs.declared.WriteAnswer.{WriteAnswer}
 use Rattle.frame.proofs.Undoes.{told-same}
 use Rattle.index.specs.declared.OpenAnswer.{OpenAnswer}
 use Rattle.index.specs.declared.OpenAnswer.the-variants as Open

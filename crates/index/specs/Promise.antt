@@ -19,15 +19,15 @@ use Rattle.index.specs.declared.TotalsAnswer.{TotalsAnswer}
 use Rattle.index.specs.declared.TotalsAnswer.the-variants as Totalled
 use Rattle.index.specs.declared.BatchAnswer.{BatchAnswer}
 use Rattle.index.specs.declared.BatchAnswer.the-variants as Batch
-use Rattle.look.specs.declared.Listed.{Listed}
+use Rattle.look_output.specs.declared.Listed.{Listed}
 use Rattle.index.specs.declared.GetAnswer.{GetAnswer}
 use Rattle.index.specs.declared.GetAnswer.the-variants as Get
-use Rattle.look.specs.declared.Scanned as Told
-use Rattle.look.specs.Output.{roomIn, outputOf}
+use Rattle.look_scan.specs.declared.Scanned as Told
+use Rattle.look_output.specs.Output.{roomIn, outputOf}
 use Rattle.index.specs.declared.ScanAnswer.{ScanAnswer}
 use Rattle.index.specs.declared.ScanAnswer.the-variants as Scan
-use Rattle.frame.specs.declared.WriteAnswer.{WriteAnswer}
-use Rattle.frame.specs.Answers.{lengthTold}
+use Rattle.frame_text.specs.declared.WriteAnswer.{WriteAnswer}
+use Rattle.frame_text.specs.Answers.{lengthTold}
 
 -- r is a where P holds, and b where it does not
 pub data Where (P : Type 0) {A : Type 0} (a b r : A) : Type 0 where

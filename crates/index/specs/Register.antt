@@ -19,8 +19,8 @@ use Rattle.index.specs.declared.OpenAnswer.the-variants as Open
 use Rattle.index.specs.declared.TotalsAnswer.{TotalsAnswer}
 use Rattle.index.specs.declared.BatchAnswer.{BatchAnswer}
 use Rattle.index.specs.declared.BatchAnswer.the-variants as Batch
-use Rattle.look.specs.declared.Scanned.{Scanned}
-use Rattle.look.specs.Output.{roomIn}
+use Rattle.look_scan.specs.declared.Scanned.{Scanned}
+use Rattle.look_output.specs.Output.{roomIn}
 use Rattle.index.specs.declared.GetAnswer.{GetAnswer}
 use Rattle.index.specs.declared.ScanAnswer.{ScanAnswer}
 use Rattle.index.specs.Promise.{Left, Opens, Totalling, totalled, Batches, batched, Gets, got, Scans, scanned, listed, written}

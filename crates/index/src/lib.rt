@@ -1,16 +1,15 @@
 // THE PUBLIC CALLS of the index. Each takes any input, and answers: with what it has done, or with the number of a refusal, and then every
 // byte that was lent is as it was. What each answers stands in specs/Promise.
-ghost use mathlib.Core.Path.{_≡_};
 ghost use Rattle.look.specs.Calls.{requestFor};
 ghost use Rattle.index.specs.Promise.{Opens, Totalling, Gets, Scans, Frames, Batches};
-
-mod refuse; // the refusals that look at keys
-
-use frame::WriteAnswer;
-pub use frame::read as read_frame;
-pub use frame::write as write_frame;
-use look::Listed;
-use look::Scanned;
+pub use frame_read::read as read_frame;
+use frame_text::WriteAnswer;
+pub use frame_write::write as write_frame;
+use index_refuse::batch_refusal;
+use index_refuse::descends;
+use index_refuse::operation_fits;
+use look_output::Listed;
+use look_scan::Scanned;
 use model::Bound;
 use model::Counts;
 use model::Direction;
@@ -18,9 +17,6 @@ use model::Operation;
 use model::Settings;
 use model::Sift;
 use model::Totals;
-use refuse::batch_refusal;
-use refuse::descends;
-use refuse::operation_fits;
 
 // What opening a pool answers.
 pub enum OpenAnswer {
@@ -67,7 +63,7 @@ pub fn totals(pool: &[u8]) -> TotalsAnswer
     if !found.sound {
         return TotalsAnswer::Refused(2);
     }
-    let st = slots::settings(pool);
+    let st = slots_pool::settings(pool);
     let t = look::totals(pool, st, found.height);
     TotalsAnswer::Done(t)
 }
@@ -83,7 +79,7 @@ pub fn get(pool: &[u8], keys: &[u64], out: &mut [u8]) -> GetAnswer
     if descends(keys) {
         return GetAnswer::Refused(5);
     }
-    let st = slots::settings(pool);
+    let st = slots_pool::settings(pool);
     let g = look::get(pool, st, found.height, keys, out);
     GetAnswer::Done(g)
 }
@@ -103,7 +99,7 @@ pub fn scan(
     if !found.sound {
         return ScanAnswer::Refused(2);
     }
-    let st = slots::settings(pool);
+    let st = slots_pool::settings(pool);
     let s = look::scan(pool, st, found.height, start, end, direction, sift, out);
     ScanAnswer::Done(s)
 }
@@ -116,7 +112,7 @@ pub fn frame(pool: &[u8], i: usize, line: &mut [u8]) -> WriteAnswer
     if !found.sound {
         return WriteAnswer::Refused(2);
     }
-    let st = slots::settings(pool);
+    let st = slots_pool::settings(pool);
     frame::write_node(pool, st, found.height, i, line)
 }
 
@@ -134,12 +130,12 @@ pub fn batch(
     if !found.sound {
         return BatchAnswer::Refused(2);
     }
-    let st = slots::settings(pool);
+    let st = slots_pool::settings(pool);
     let n = batch_refusal(st, found.height, found.unused, keys, places, sizes, op);
     if n != 0 {
         return BatchAnswer::Refused(n);
     }
     operation_fits(op);
-    let counts = root::batch(pool, st, found.height, found.low, keys, places, sizes, op);
+    let counts = batch::batch(pool, st, found.height, found.low, keys, places, sizes, op);
     BatchAnswer::Done(counts)
 }

@@ -1,4 +1,3 @@
--- `Fills`: a loop that fills a list. `Reported`: what reports an answer. `One`: a promise leaves one outcome.
-pub mod Fills
-pub mod Reported
+-- `Outcomes`: what the length of a pool and a frame that is read report. `One`: a promise leaves one outcome.
+pub mod Outcomes
 pub mod One

@@ -7,31 +7,27 @@ ghost use Rattle.model.specs.ReadFrame.{readLine};
 ghost use Rattle.model.specs.Sound.{InLimits};
 ghost use Rattle.tree.specs.Pool.{poolLen};
 ghost use Rattle.look.specs.Calls.{requestFor};
-ghost use Rattle.frame.specs.Contents.{frameOf};
+ghost use Rattle.frame_text.specs.Contents.{frameOf};
 ghost use Rattle.index.specs.Promise.{Where};
-ghost use Rattle.index_c.specs.Given.{settingsFor, referenceFor, expectationFor, actionFor, callFor, callEach, boundFor, directionFor, siftFor, leafContents, interiorContents};
+ghost use Rattle.index_c_given.specs.Given.{settingsFor, referenceFor, expectationFor, actionFor, callFor, callEach, boundFor, directionFor, siftFor, leafContents, interiorContents};
 ghost use Rattle.index_c.specs.Calls.{OpenCall, TotalsCall, BatchCall, GetCall, ScanCall, FrameCall, WriteCall, ReadCall};
-
-mod given; // what a caller's numbers and flags stand for
-mod tell; // an answer as a number and a small buffer
-
-use given::action;
-use given::bound;
-use given::direction;
-use given::expectation;
-use given::interior;
-use given::leaf;
-use given::settings;
+use index_c_given::action;
+use index_c_given::bound;
+use index_c_given::direction;
+use index_c_given::expectation;
+use index_c_given::interior;
+use index_c_given::leaf;
+use index_c_given::settings;
+use index_c_told::tell_counts;
+use index_c_told::tell_get;
+use index_c_told::tell_length;
+use index_c_told::tell_open;
+use index_c_told::tell_reading;
+use index_c_told::tell_scan;
+use index_c_told::tell_totals;
 use model::Operation;
 use model::Reference;
 use model::Sift;
-use tell::tell_counts;
-use tell::tell_get;
-use tell::tell_length;
-use tell::tell_open;
-use tell::tell_reading;
-use tell::tell_scan;
-use tell::tell_totals;
 
 // The exact length of a pool, in bytes; 0 where a setting is wrong.
 #[no_mangle]

@@ -13,10 +13,10 @@ use lib.ListN.{length, drop, getD, length-map, drop-of-length-le}
 use lib.Seq.{drop-cons}
 use lib.Dec.{ltb, eqb}
 use borrow.Author.Tests.{ltb-true, ltb-false, eqb-true}
-use Rattle.slots.specs.declared.Row.{Row}
+use Rattle.slots_raw.specs.declared.Row.{Row}
 use Rattle.slots.specs.declared.Found.{Found}
 use Rattle.slots.specs.declared.Found.the-variants.{At, Before}
-use Rattle.slots.specs.Slots.{blank}
+use Rattle.slots_raw.specs.Slots.{blank}
 use Rattle.slots.specs.Nodes.{nodes, rowsAt}
 use Rattle.slots.specs.Nodes as S
 use Rattle.slots.specs.Search.{keyAt, pick, below, findRow, Within, Sought}
@@ -36,10 +36,10 @@ use Rattle.model.proofs.Readable.{separator-keys}
 use Rattle.tree.specs.Bridge.{rowFor, entryOf, childOf, Holds, treeAt}
 use Rattle.tree.proofs.Keys.{rows-ascend, entries-from}
 use Rattle.tree.proofs.SoundHolds.{slot-read}
-use Rattle.look.specs.Output.{Page, enlistAll}
+use Rattle.look_output.specs.Output.{Page, enlistAll}
 use Rattle.look.specs.Lookup.{childFor, Chosen, Grown, Leads}
-use Rattle.look.proofs.Outputs.{enlist-append}
-use Rattle.look.proofs.Children.{at-map, held-at, child-held}
+use Rattle.look_output.proofs.Outputs.{enlist-append}
+use Rattle.tree.proofs.Children.{at-map, held-at, child-held}
 
 -- THE KEYS OF ROWS
 

@@ -28,15 +28,15 @@ use Rattle.tree.proofs.Sums.{rows-total, sums-fit}
 use Rattle.tree.proofs.Few.{used-few, entries-most}
 use Rattle.tree.proofs.Pools.{sound-held, sound-holds-index, sound-index}
 use Rattle.tree.proofs.SoundHolds.{slot-read}
-use Rattle.look.specs.declared.Listed.{Listed}
-use Rattle.look.specs.declared.Scanned.{Scanned}
-use Rattle.look.specs.declared.query.Query.{Query}
-use Rattle.look.specs.Output.{roomIn, page, enlistAll, freshPage}
-use Rattle.look.specs.Walk.{requestOf, Walk, walkAt, visitAll, openingsOf, ToScan}
+use Rattle.look_output.specs.declared.Listed.{Listed}
+use Rattle.look_scan.specs.declared.Scanned.{Scanned}
+use Rattle.look_scan.specs.declared.query.Query.{Query}
+use Rattle.look_output.specs.Output.{roomIn, page, enlistAll, freshPage}
+use Rattle.look_scan.specs.Walk.{requestOf, Walk, walkAt, visitAll, openingsOf, ToScan}
 use Rattle.look.specs.Lookup.{Grown}
 use Rattle.look.specs.Calls.{InPool, Writes}
-use Rattle.look.proofs.Outputs.{Shows, shows-none, shows-all}
-use Rattle.look.proofs.Visits.{openings-append, visits-show, visits-count}
+use Rattle.look_output.proofs.Outputs.{Shows, shows-none, shows-all}
+use Rattle.look_scan.proofs.Visits.{openings-append, visits-show, visits-count}
 
 -- A SCAN OPENS NO MORE NODES than the tree has
 

@@ -10,7 +10,7 @@ use Rattle.model.specs.declared.Direction.{Direction}
 use Rattle.model.specs.declared.Sift.{Sift}
 use Rattle.model.specs.Look.{Listing, Request}
 use Rattle.tree.specs.Pool.{SoundPool, settingsIn, indexOf}
-use Rattle.look.specs.Output.{outputOf}
+use Rattle.look_output.specs.Output.{outputOf}
 
 -- a sound pool, with its own settings and the height of its index
 pub record InPool (l : List ℕ) (st : Settings) (height : ℕ) : Type 0 where

@@ -6,7 +6,7 @@ use mathlib.Core.Bool.{cond}
 use mathlib.Core.List.{List, [], _∷_}
 use lib.ListN.{length}
 use lib.Dec.{ltb}
-use Rattle.slots.specs.declared.Row.{Row}
+use Rattle.slots_raw.specs.declared.Row.{Row}
 use Rattle.slots.specs.Nodes.{nodes, Held}
 use Rattle.model.specs.declared.Settings.{Settings}
 use Rattle.model.specs.Lists.{All}

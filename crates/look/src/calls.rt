@@ -5,13 +5,13 @@ ghost use Rattle.model.specs.Tree.{totalsOf};
 ghost use Rattle.model.specs.Look.{getAll};
 ghost use Rattle.model.specs.Look as look;
 ghost use Rattle.tree.specs.Pool.{indexOf};
-ghost use Rattle.look.specs.Output.{roomIn};
+ghost use Rattle.look_output.specs.Output.{roomIn};
 ghost use Rattle.look.specs.Calls.{InPool, Writes, requestFor};
-use crate::Listed;
-use crate::Scanned;
 use crate::lookup::get_keys;
-use crate::query::Query;
-use crate::walk::scan_node;
+use look_output::Listed;
+use look_scan::Scanned;
+use look_scan::query::Query;
+use look_scan::scan_node;
 use model::Bound;
 use model::Direction;
 use model::Settings;
@@ -23,7 +23,7 @@ pub fn totals(pool: &[u8], st: Settings, height: usize) -> Totals
     requires { ⌜ InPool (now pool) st height ⌝ }
     ensures { λ r. ⌜ r ≡ totalsOf (indexOf (now (pool .entry))) ⌝ }
 {
-    tree::stats(pool, st, height, 0)
+    tree_rows::stats(pool, st, height, 0)
 }
 
 // Lists one entry for each key that is present (the Rust's `get`).

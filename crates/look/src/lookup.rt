@@ -11,10 +11,10 @@ ghost use Rattle.model.specs.Tree.{entries};
 ghost use Rattle.model.specs.Plain.{held};
 ghost use Rattle.model.specs.Look.{found, present};
 ghost use Rattle.tree.specs.Bridge.{treeAt};
-ghost use Rattle.look.specs.Output.{page, enlistAll, freshPage};
+ghost use Rattle.look_output.specs.Output.{page, enlistAll, freshPage};
 ghost use Rattle.look.specs.Lookup.{Grown, Leads, Chosen};
-use crate::Listed;
-use crate::output::list_row;
+use look_output::Listed;
+use look_output::list_row;
 use model::Settings;
 use slots::Found;
 
@@ -80,7 +80,7 @@ fn leaf_for(pool: &[u8], st: Settings, height: usize, key: u64) -> usize
     while 0 < h {
         let i = child_for(pool, st, s, key);
         let row = slots::row_at(pool, st, s, i);
-        s = tree::child_of(row);
+        s = tree_rows::child_of(row);
         h -= 1;
     }
     s

@@ -3,10 +3,10 @@ use crate::told::Told;
 use crate::told::amiss;
 use crate::told::check_word;
 use crate::told::refused;
-use frame::Contents;
-use frame::FrameEntry;
-use frame::Kind;
-use frame::ReadAnswer;
+use frame_text::Contents;
+use frame_text::FrameEntry;
+use frame_text::Kind;
+use frame_text::ReadAnswer;
 use trial::at;
 
 // The line's bytes are numbers below 256.

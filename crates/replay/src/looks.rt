@@ -5,7 +5,7 @@ use crate::told::Told;
 use crate::told::amiss;
 use crate::told::check_first;
 use crate::told::refused;
-use frame::WriteAnswer;
+use frame_text::WriteAnswer;
 use index::GetAnswer;
 use index::ScanAnswer;
 use model::Bound;

@@ -11,7 +11,7 @@ use lib.ListN.{length, set}
 use lib.Seq.{set-out, getD-set-same, getD-set-other}
 use borrow.Author.Tests.{lt-ltb, le-ltb, eq-eqb, ne-eqb}
 use Rattle.model.specs.Lists.{All, one, Ordered, cons}
-use Rattle.slots.specs.declared.Row.{Row}
+use Rattle.slots_raw.specs.declared.Row.{Row}
 use Rattle.slots.specs.declared.Found.the-variants.{At, Before}
 use Rattle.slots.specs.Nodes.{Node, unused, nth}
 use Rattle.slots.specs.Search.{keyAt, Ascending, pick, below, findRow, Below}

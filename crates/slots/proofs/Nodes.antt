@@ -9,12 +9,12 @@ use mathlib.Core.List.{List, [], _∷_, _++_, map, append-nil}
 use lib.ListN.{length, take, drop, getD, set, replicate, length-map, length-set, List·getD-map, List·getD-append}
 use lib.Seq.{getD-set-same, getD-set-other, set-getD, set-set, take-length, drop-length}
 use Rattle.model.specs.declared.Settings.{Settings}
-use Rattle.slots.specs.declared.Row.{Row}
-use Rattle.slots.specs.Over.{over, part}
-use Rattle.slots.specs.Slots.{blank, chunks, width, Raw, rawOf, slots, rawAt, putCells, putHead, Wrote}
+use Rattle.slots_raw.specs.declared.Row.{Row}
+use Rattle.slots_raw.specs.Over.{over, part}
+use Rattle.slots_raw.specs.Slots.{blank, chunks, width, Raw, rawOf, slots, rawAt, putCells, putHead, Wrote}
 use Rattle.slots.specs.Nodes.{Node, unused, nodeOf, nodes, nth, rowsAt, putRows, putKind, pad, rawFor, Canon, Held, Now, putIn, without, put2, withRows}
-use Rattle.slots.proofs.Over.{map-set}
-use Rattle.slots.proofs.Chunks.{length-chunks}
+use Rattle.slots_raw.proofs.Over.{map-set}
+use Rattle.slots_raw.proofs.Chunks.{length-chunks}
 use Rattle.slots.proofs.Pads.{take-pad, part-pad, length-putIn, length-without, opening, opened, closing, closed, replaced}
 
 -- ---- slots and nodes

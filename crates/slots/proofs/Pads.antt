@@ -5,11 +5,11 @@ use native.Mathlib.Omega.{arith}
 use mathlib.Core.List.{List, [], _∷_, _++_, append-assoc}
 use lib.ListN.{length, take, drop, set, replicate, length-append, length-drop, length-set, length-replicate, replicate-append-replicate}
 use lib.Seq.{take-append-le, drop-append-le, drop-append-add, take-at, drop-at, drop-drop, length-take-le, take-take, take-all, set-append-left}
-use Rattle.slots.specs.declared.Row.{Row}
-use Rattle.slots.specs.Over.{over, part}
-use Rattle.slots.specs.Slots.{blank}
+use Rattle.slots_raw.specs.declared.Row.{Row}
+use Rattle.slots_raw.specs.Over.{over, part}
+use Rattle.slots_raw.specs.Slots.{blank}
 use Rattle.slots.specs.Nodes.{pad, putIn, without}
-use Rattle.slots.proofs.Over.{set-over, length-part, drop-replicate}
+use Rattle.slots_raw.proofs.Over.{set-over, length-part, drop-replicate}
 
 -- ---- rows and blank rows
 

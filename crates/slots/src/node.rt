@@ -4,18 +4,18 @@ ghost use mathlib.Core.Path.{_≡_};
 ghost use mathlib.Core.List.{_∷_, []};
 ghost use lib.ListN.{getD, set};
 ghost use Rattle.words.specs.Words.{words};
-ghost use Rattle.slots.specs.Slots.{blank};
+ghost use Rattle.slots_raw.specs.Slots.{blank};
 ghost use Rattle.slots.specs.Nodes.{Now, At, Rows, Room, Counted, nodes, nth, rowsAt, putRows, putKind, putIn, without, unused};
-use crate::Row;
 use crate::UNUSED;
-use crate::raw::raw_clear;
-use crate::raw::raw_count;
-use crate::raw::raw_head;
-use crate::raw::raw_kind;
-use crate::raw::raw_move;
-use crate::raw::raw_put;
-use crate::raw::raw_row;
 use model::Settings;
+use slots_raw::Row;
+use slots_raw::raw_clear;
+use slots_raw::raw_count;
+use slots_raw::raw_head;
+use slots_raw::raw_kind;
+use slots_raw::raw_move;
+use slots_raw::raw_put;
+use slots_raw::raw_row;
 
 // The kind of node `s`.
 pub fn kind(pool: &[u8], st: Settings, s: usize) -> u64

@@ -7,10 +7,10 @@ use native.Mathlib.Omega.{arith}
 use native.Mathlib.Decide.{ℕ-discrete}
 use lib.ListN.{length, length-append}
 use borrow.Author.Tests.{eq-eqb, ne-eqb}
-use Rattle.slots.specs.declared.Row.{Row}
+use Rattle.slots_raw.specs.declared.Row.{Row}
 use Rattle.slots.specs.Nodes.{nth}
 use Rattle.slots.specs.Nodes as S
-use Rattle.slots.proofs.Over.{map-append}
+use Rattle.slots_raw.proofs.Over.{map-append}
 use Rattle.model.specs.declared.Entry.{Entry}
 use Rattle.model.specs.declared.Settings.{Settings}
 use Rattle.model.specs.Lists.{hit, times, All, none, one, nil, cons}
@@ -22,7 +22,7 @@ use Rattle.model.proofs.Trees.{slotsIn, slots-leaf, Ends, separator-ends}
 use Rattle.tree.specs.Bridge.{childOf, treeAt}
 use Rattle.tree.specs.Pool.{firstChild, heightAt, Kinds}
 use Rattle.tree.proofs.Counts.{times-all}
-use Rattle.survey.proofs.Rows.{itemsAt}
+use Rattle.survey_node.proofs.Rows.{itemsAt}
 use Rattle.survey.proofs.Edges.{edge-end, edge-down}
 
 -- KEYS

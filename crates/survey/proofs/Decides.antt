@@ -8,15 +8,15 @@ use native.Mathlib.Omega.{arith}
 use native.Mathlib.Decide.{map-dec, ℕ-discrete, decLe, decLt}
 use lib.ListN.{length, getD, take, drop}
 use Rattle.words.specs.Words.{words}
-use Rattle.words.specs.Moves.{allZero}
-use Rattle.slots.specs.declared.Row.{Row}
-use Rattle.slots.specs.Slots.{width, rawAt, Shape}
+use Rattle.words_runs.specs.Moves.{allZero}
+use Rattle.slots_raw.specs.declared.Row.{Row}
+use Rattle.slots_raw.specs.Slots.{width, rawAt, Shape}
 use Rattle.slots.specs.Nodes.{nodes, nth, unused, rawFor}
 use Rattle.slots.specs.Nodes as S
-use Rattle.slots.proofs.Raws.{base-of}
+use Rattle.slots_raw.proofs.Raws.{base-of}
 use Rattle.slots.proofs.Nodes.{length-nodes}
-use Rattle.slots.proofs.Canons.{canon-zero, canon-count, past-raw}
-use Rattle.slots.proofs.Zeros.{tail-tells, slot-tells}
+use Rattle.slots_pool.proofs.Canons.{canon-zero, canon-count, past-raw}
+use Rattle.slots_pool.proofs.Zeros.{tail-tells, slot-tells}
 use Rattle.model.specs.declared.Entry.{Entry}
 use Rattle.model.specs.declared.Settings.{Settings}
 use Rattle.model.specs.Answer.{Tells}
@@ -30,8 +30,8 @@ use Rattle.tree.proofs.Sums.{totals-discrete}
 use Rattle.tree.proofs.Opening.{exact-shape}
 use Rattle.survey.specs.Surveyed.{Headed}
 use Rattle.survey.specs.Spared.{Idle}
-use Rattle.survey.specs.Checked.{Tail, Right, leastRoot, SoundTree}
-use Rattle.survey.proofs.Heads.{tail-told}
+use Rattle.survey_node.specs.Checked.{Tail, Right, leastRoot, SoundTree}
+use Rattle.survey_node.proofs.Heads.{tail-told}
 use Rattle.survey.proofs.Verdicts.{unmet, unused-few, right-sound, sound-full, sound-right, sound-pool, pool-headed, pool-idle, pool-tree}
 
 -- OF DECISIONS

@@ -9,11 +9,11 @@ use native.Mathlib.Decide.{decLt, ℕ-discrete}
 use lib.ListN.{length, drop, drop-of-length-le}
 use lib.Seq.{drop-cons}
 use borrow.Author.Tests.{eq-eqb, ne-eqb}
-use Rattle.slots.specs.Slots.{rawAt}
+use Rattle.slots_raw.specs.Slots.{rawAt}
 use Rattle.slots.specs.Nodes.{nodes, nth, unused, rawFor}
 use Rattle.slots.specs.Nodes as S
 use Rattle.slots.proofs.Nodes.{kind-node, length-nodes}
-use Rattle.slots.proofs.Canons.{past-raw}
+use Rattle.slots_pool.proofs.Canons.{past-raw}
 use Rattle.model.specs.declared.Settings.{Settings}
 use Rattle.tree.specs.Bridge.{unusedFrom}
 use Rattle.survey.specs.Spared.{Idle, Spared}

@@ -14,7 +14,7 @@ use Rattle.slots.specs.Nodes.{nth, unused, nodes, rawFor}
 use Rattle.slots.specs.Nodes as S
 use Rattle.slots.specs.Search.{Lowest}
 use Rattle.slots.proofs.Nodes.{node-raw, length-nodes}
-use Rattle.slots.proofs.Canons.{canon-zero, zero-unused}
+use Rattle.slots_pool.proofs.Canons.{canon-zero, zero-unused}
 use Rattle.model.specs.declared.Settings.{Settings}
 use Rattle.model.specs.Answer.{Tells}
 use Rattle.model.specs.Lists.{times}
@@ -30,11 +30,11 @@ use Rattle.tree.proofs.Cells.{used-tree}
 use Rattle.tree.proofs.SoundHolds.{read-holds}
 use Rattle.tree.proofs.Unused.{used-in, used-none, unused-past, unused-once}
 use Rattle.survey.specs.declared.Findings.{Findings}
-use Rattle.survey.specs.declared.walk.Part.{Part}
+use Rattle.survey_node.specs.declared.Part.{Part}
 use Rattle.survey.specs.Surveyed.{Surveyed, Headed, unsound}
 use Rattle.survey.specs.Spared.{Idle}
-use Rattle.survey.specs.Checked.{Last, last, There, Tail, Right, Checked, leastRoot, SoundTree}
-use Rattle.survey.proofs.Rows.{kinds-there}
+use Rattle.survey_node.specs.Checked.{Last, last, There, Tail, Right, Checked, leastRoot, SoundTree}
+use Rattle.survey_node.proofs.Rows.{kinds-there}
 use Rattle.survey.proofs.Places.{hit-most, each-once}
 use Rattle.survey.proofs.Apart.{slots-once}
 

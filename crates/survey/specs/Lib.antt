@@ -1,4 +1,3 @@
--- `Surveyed` says what the survey of a pool promises, `Spared` what the pass over its slots tells, `Checked` what the walk over its tree does.
+-- `Surveyed` says what the survey of a pool promises, `Spared` what the pass over its slots tells.
 pub mod Surveyed
 pub mod Spared
-pub mod Checked

@@ -4,7 +4,7 @@ use mathlib.Core.Path.{_≡_}
 use mathlib.Core.Bool.{true}
 use mathlib.Core.List.{List}
 use lib.ListN.{length}
-use Rattle.slots.specs.Slots.{rawAt}
+use Rattle.slots_raw.specs.Slots.{rawAt}
 use Rattle.slots.specs.Nodes.{nodes, nth, unused, rawFor}
 use Rattle.slots.specs.Search.{Lowest}
 use Rattle.model.specs.declared.Settings.{Settings}

@@ -38,7 +38,7 @@ pub fn survey(pool: &[u8]) -> Findings
     if !header_right(pool) {
         return nothing();
     }
-    let st = slots::settings(pool);
+    let st = slots_pool::settings(pool);
     let spares = survey_slots(pool, st);
     if !spares.ok {
         return nothing();
@@ -62,10 +62,10 @@ fn header_right(pool: &[u8]) -> bool
     if pool.len() < 32 {
         return false;
     }
-    if slots::layout(pool) != slots::LAYOUT {
+    if slots_pool::layout(pool) != slots_pool::LAYOUT {
         return false;
     }
-    let st = slots::settings(pool);
+    let st = slots_pool::settings(pool);
     if !tree::in_limits(st) {
         return false;
     }

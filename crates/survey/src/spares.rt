@@ -1,7 +1,7 @@
 // The pass over the slots: the unused ones, which must be all zero. Of a slot in use it reads the kind only, and leaves the rest to
 // the walk, which then reads each such slot once, from its first word to its last.
 ghost use Rattle.words.specs.Words.{words};
-ghost use Rattle.slots.specs.Slots.{Shape};
+ghost use Rattle.slots_raw.specs.Slots.{Shape};
 ghost use Rattle.survey.specs.Spared.{Spared};
 use model::Settings;
 
@@ -23,8 +23,8 @@ pub fn survey_slots(pool: &[u8], st: Settings) -> Spares
     let mut s = nodes;
     while 0 < s {
         s -= 1;
-        if slots::raw_kind(pool, st, s) == slots::UNUSED {
-            if !slots::slot_zero(pool, st, s) {
+        if slots_raw::raw_kind(pool, st, s) == slots::UNUSED {
+            if !slots_pool::slot_zero(pool, st, s) {
                 return Spares {
                     ok: false,
                     unused: 0,

@@ -7,7 +7,7 @@ use native.Mathlib.Omega.{arith}
 use native.Mathlib.Decide.{ℕ-discrete}
 use Rattle.slots.specs.Nodes.{nth}
 use Rattle.slots.specs.Nodes as S
-use Rattle.slots.proofs.Over.{map-append}
+use Rattle.slots_raw.proofs.Over.{map-append}
 use Rattle.model.specs.Lists.{times, All, none, one}
 use Rattle.model.specs.Tree.{Item, Tree, slots}
 use Rattle.model.proofs.Lists.{all-append, all-left, all-right, all-both, parts-append, hit-same, hit-other, times-append}

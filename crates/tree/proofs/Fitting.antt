@@ -4,11 +4,11 @@ use mathlib.Core.List.{List, [], _∷_, map}
 use Prim.Native.Nat.{ℕ, zero, suc, _+_, _-_, _*_, _^_, _≤_, _<_}
 use native.Mathlib.Omega.{arith}
 use lib.ListN.{length, getD, replicate, length-append, length-map}
-use Rattle.slots.specs.declared.Row.{Row}
-use Rattle.slots.specs.Slots.{blank}
+use Rattle.slots_raw.specs.declared.Row.{Row}
+use Rattle.slots_raw.specs.Slots.{blank}
 use Rattle.slots.specs.Nodes.{nth, pad, rawFor}
 use Rattle.slots.specs.Nodes as S
-use Rattle.slots.specs.Image.{flatRows, block, image}
+use Rattle.slots_pool.specs.Image.{flatRows, block, image}
 use Rattle.model.specs.declared.Entry.{Entry}
 use Rattle.model.specs.declared.Totals.{Totals}
 use Rattle.model.specs.declared.Settings.{Settings}

@@ -14,3 +14,4 @@ pub mod NodesOf
 pub mod Fitting
 pub mod Pools
 pub mod Opening
+pub mod Children

@@ -10,11 +10,11 @@ use lib.ListN.{length, replicate}
 use borrow.Author.Tests.{leb-true, le-leb, ne-eqb}
 use Rattle.words.specs.Words.{words, bytesOf}
 use Rattle.words.proofs.Laws.{Bytes, length-words, bytesOf-words}
-use Rattle.slots.specs.Slots.{width, Shape}
-use Rattle.slots.specs.Header.{headerOf}
+use Rattle.slots_raw.specs.Slots.{width, Shape}
+use Rattle.slots_pool.specs.Header.{headerOf}
 use Rattle.slots.specs.Nodes.{unused}
 use Rattle.slots.specs.Nodes as S
-use Rattle.slots.specs.Image.{image, newNodes}
+use Rattle.slots_pool.specs.Image.{image, newNodes}
 use Rattle.model.specs.declared.Settings.{Settings}
 use Rattle.model.specs.Lists.{upFrom}
 use Rattle.model.specs.Tree.{newIndex}

@@ -7,12 +7,12 @@ use native.Mathlib.Omega.{arith}
 use lib.ListN.{length, take, getD}
 use Rattle.words.specs.Words.{words, bytesOf}
 use Rattle.words.proofs.Laws.{Bytes, length-words, length-bytesOf, bytesOf-words, bytesOf-bytes, words-bytesOf}
-use Rattle.slots.specs.Slots.{width}
-use Rattle.slots.specs.Header.{settingsOf, headerOf}
+use Rattle.slots_raw.specs.Slots.{width}
+use Rattle.slots_pool.specs.Header.{settingsOf, headerOf}
 use Rattle.slots.specs.Nodes.{nodes, nth, Held}
 use Rattle.slots.specs.Nodes as S
-use Rattle.slots.specs.Image.{image}
-use Rattle.slots.proofs.Images.{image-of, image-nodes}
+use Rattle.slots_pool.specs.Image.{image}
+use Rattle.slots_pool.proofs.Images.{image-of, image-nodes}
 use Rattle.slots.proofs.Nodes.{length-nodes}
 use Rattle.model.specs.declared.Settings.{Settings}
 use Rattle.model.specs.Tree.{Index}

@@ -3,7 +3,7 @@ use mathlib.Core.Path.{_≡_, refl, ap, _∙_}
 use mathlib.Core.Logic.{_≢_}
 use Prim.Native.Nat.{ℕ, zero, suc, _+_, _*_, _/_, _%_, _<_}
 use native.Mathlib.Omega.{arith}
-use Rattle.slots.specs.declared.Row.{Row}
+use Rattle.slots_raw.specs.declared.Row.{Row}
 use Rattle.model.specs.declared.Totals.{Totals}
 use Rattle.model.specs.Tree.{adds}
 use Rattle.tree.specs.Bridge.{entryOf, childRow, childOf, childTotals, rowTotals}

@@ -7,8 +7,8 @@ use native.Mathlib.Numerals.{add-one}
 use native.Mathlib.Decide.{ℕ-discrete}
 use lib.ListN.{length, drop, getD, length-append, drop-of-length-le}
 use lib.Seq.{drop-cons}
-use Rattle.slots.specs.declared.Row.{Row}
-use Rattle.slots.specs.Slots.{blank}
+use Rattle.slots_raw.specs.declared.Row.{Row}
+use Rattle.slots_raw.specs.Slots.{blank}
 use Rattle.model.specs.declared.Entry.{Entry}
 use Rattle.model.specs.declared.Totals.{Totals}
 use Rattle.model.specs.Lists.{All, none, one}

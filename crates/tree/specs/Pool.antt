@@ -6,12 +6,12 @@ use mathlib.Core.List.{List, [], _∷_, _++_, map}
 use lib.ListN.{length, getD}
 use lib.Dec.{eqb}
 use Rattle.words.specs.Words.{words, bytesOf}
-use Rattle.slots.specs.declared.Row.{Row}
-use Rattle.slots.specs.Slots.{width, rawAt}
-use Rattle.slots.specs.Header.{settingsOf, headerOf}
+use Rattle.slots_raw.specs.declared.Row.{Row}
+use Rattle.slots_raw.specs.Slots.{width, rawAt}
+use Rattle.slots_pool.specs.Header.{settingsOf, headerOf}
 use Rattle.slots.specs.Nodes.{nodes, nth, unused, Canon}
 use Rattle.slots.specs.Nodes as S
-use Rattle.slots.specs.Image.{image}
+use Rattle.slots_pool.specs.Image.{image}
 use Rattle.model.specs.declared.Settings.{Settings}
 use Rattle.model.specs.Lists.{upFrom, All}
 use Rattle.model.specs.Tree.{Tree, Index, depth, entriesOf, slotsOf, greatestKey, total}

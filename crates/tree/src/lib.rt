@@ -6,19 +6,7 @@ ghost use Rattle.model.specs.Sound.{InLimits};
 ghost use Rattle.tree.specs.Bridge.{kindFor};
 ghost use Rattle.tree.specs.Pool.{poolLen};
 ghost use Rattle.tree.specs.Opening.{Opened};
-
-mod row; // what the words of a row mean
-
 use model::Settings;
-pub use row::child_of;
-pub use row::child_row;
-pub use row::child_totals;
-pub use row::entry_totals;
-pub use row::no_totals;
-pub use row::plus_totals;
-pub use row::row_totals;
-pub use row::same_totals;
-pub use row::stats;
 
 // The kind of a node whose height is `height`: 1 for a leaf, 2 for an interior.
 pub fn kind_for(height: usize) -> u64
@@ -65,6 +53,6 @@ pub fn open(pool: &mut [u8], st: Settings) -> bool
     if pool.len() != pool_len(st) {
         return false;
     }
-    slots::open_pool(pool, st);
+    slots_pool::open_pool(pool, st);
     true
 }

@@ -1,3 +1,2 @@
--- `Words` says what the words of a pool are, `Moves` what is done to a run of them.
+-- `Words` says what the words of a pool are.
 pub mod Words
-pub mod Moves

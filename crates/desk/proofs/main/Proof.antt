@@ -1,5 +1,5 @@
 -- A read a turn; the last answer stands in its text. Assumes nothing.
-use Rattle.desk_lines.specs.Orders.{ordered}
+use Rattle.desk_orders.specs.Orders.{ordered}
 use Rattle.desk_lines.specs.Parts.{held}
 use lib.ListN.{replicate}
 use Rattle.desk_answers.proofs.Cuts.{answer-inside}

@@ -2,7 +2,7 @@
 use Rattle.desk_answers.proofs.Tells.{told, too-long, not-too-long, rows, keys-alone, dumps, is-refused}
 use Rattle.desk_answers.specs.Replies.{refusing}
 use Rattle.desk_answers.specs.Promise.{Outcome, Answers}
-use Rattle.desk_lines.specs.Orders.{wanted}
+use Rattle.desk_orders.specs.Orders.{wanted}
 use lib.Seq.{length-take-le}
 use lib.ListN.{take}
 use mathlib.Core.Path.{_≡_, refl, sym, subst}

@@ -1,8 +1,7 @@
 -- A text is copied byte by byte. Assumes nothing.
-use lib.ListN.{length-set}
+use lib.ListN.{length-set, length, getD}
 use Rattle.desk_text.proofs.Overs.{over-paste}
 use lib.Seq.{paste, paste-zero, paste-suc}
-use lib.ListN.{length, getD}
 use Prim.Native.Nat.{_+_, _-_, _≤_}
 use mathlib.Core.Path.{_≡_, refl, sym, ap, _∙_}
 use native.Mathlib.Numerals.{add-one}

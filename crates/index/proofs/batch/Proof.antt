@@ -9,10 +9,10 @@ use Rattle.index.proofs.batch.Statement.{statement}
 use Rattle.index.proofs.batch.Tie as tie
 use Rattle.index.proofs.batch.Reads as reads
 use Rattle.index.proofs.batch.Lts as lts
-use Rattle.root.proofs.batch.Reads as batch-reads
-use Rattle.index.proofs.refuse.batch_refusal.Reads as batch-refusal-reads
-use Rattle.index.proofs.refuse.operation_fits.Reads as operation-fits-reads
-use Rattle.slots.proofs.settings.Reads as settings-reads
+use Rattle.batch.proofs.batch.Reads as batch-reads
+use Rattle.index_refuse.proofs.batch_refusal.Reads as batch-refusal-reads
+use Rattle.index_refuse.proofs.operation_fits.Reads as operation-fits-reads
+use Rattle.slots_pool.proofs.settings.Reads as settings-reads
 use Rattle.survey.proofs.survey.Reads as survey-reads
 
 -- src/lib.rt:119:9

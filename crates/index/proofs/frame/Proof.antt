@@ -5,7 +5,7 @@ use Rattle.index.proofs.frame.Tie as tie
 use Rattle.index.proofs.frame.Reads as reads
 use Rattle.index.proofs.frame.Lts as lts
 use Rattle.frame.proofs.write_node.Reads as write-node-reads
-use Rattle.slots.proofs.settings.Reads as settings-reads
+use Rattle.slots_pool.proofs.settings.Reads as settings-reads
 use Rattle.survey.proofs.survey.Reads as survey-reads
 
 -- src/lib.rt:116:9

@@ -5,9 +5,9 @@ use Rattle.index.proofs.get.Statement.{statement}
 use Rattle.index.proofs.get.Tie as tie
 use Rattle.index.proofs.get.Reads as reads
 use Rattle.index.proofs.get.Lts as lts
-use Rattle.index.proofs.refuse.descends.Reads as descends-reads
+use Rattle.index_refuse.proofs.descends.Reads as descends-reads
 use Rattle.look.proofs.get.Reads as get-reads
-use Rattle.slots.proofs.settings.Reads as settings-reads
+use Rattle.slots_pool.proofs.settings.Reads as settings-reads
 use Rattle.survey.proofs.survey.Reads as survey-reads
 
 -- src/lib.rt:78:9

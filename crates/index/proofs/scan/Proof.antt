@@ -6,7 +6,7 @@ use Rattle.index.proofs.scan.Tie as tie
 use Rattle.index.proofs.scan.Reads as reads
 use Rattle.index.proofs.scan.Lts as lts
 use Rattle.look.proofs.scan.Reads as scan-reads
-use Rattle.slots.proofs.settings.Reads as settings-reads
+use Rattle.slots_pool.proofs.settings.Reads as settings-reads
 use Rattle.survey.proofs.survey.Reads as survey-reads
 
 -- src/lib.rt:101:9

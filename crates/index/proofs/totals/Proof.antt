@@ -5,7 +5,7 @@ use Rattle.index.proofs.totals.Tie as tie
 use Rattle.index.proofs.totals.Reads as reads
 use Rattle.index.proofs.totals.Lts as lts
 use Rattle.look.proofs.totals.Reads as totals-reads
-use Rattle.slots.proofs.settings.Reads as settings-reads
+use Rattle.slots_pool.proofs.settings.Reads as settings-reads
 use Rattle.survey.proofs.survey.Reads as survey-reads
 
 -- src/lib.rt:65:9

@@ -5,15 +5,15 @@ use Rattle.model.specs.declared.Operation.{Operation}
 use Rattle.model.specs.declared.Operation.the-variants.{Compare}
 use Rattle.model.specs.declared.Expectation.{Expectation}
 use Rattle.model.specs.declared.Action.{Action}
-use Rattle.index_c.specs.Given.{expectationFor, actionFor, callFor}
+use Rattle.index_c_given.specs.Given.{expectationFor, actionFor, callFor}
 use Rattle.index_c.specs.Calls.{BatchCall}
 use Rattle.index_c.proofs.alarm_compare.Statement.{statement}
 use Rattle.index_c.proofs.alarm_compare.Tie as tie
 use Rattle.index_c.proofs.alarm_compare.Reads as reads
 use Rattle.index_c.proofs.alarm_compare.Lts as lts
 use Rattle.index_c.proofs.batch.Reads as batch-reads
-use Rattle.index_c.proofs.given.action.Reads as action-reads
-use Rattle.index_c.proofs.given.expectation.Reads as expectation-reads
+use Rattle.index_c_given.proofs.action.Reads as action-reads
+use Rattle.index_c_given.proofs.expectation.Reads as expectation-reads
 
 -- src/lib.rt:117:9
 expectation-requires : tie.Need-expectation-requires

@@ -5,7 +5,7 @@ use Rattle.index_c.proofs.alarm_frame.Tie as tie
 use Rattle.index_c.proofs.alarm_frame.Reads as reads
 use Rattle.index_c.proofs.alarm_frame.Lts as lts
 use Rattle.index.proofs.frame.Reads as frame-reads
-use Rattle.index_c.proofs.tell.tell_length.Reads as tell-length-reads
+use Rattle.index_c_told.proofs.tell_length.Reads as tell-length-reads
 
 -- src/lib.rt:103:9
 frame-requires : tie.Need-frame-requires

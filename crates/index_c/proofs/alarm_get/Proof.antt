@@ -5,7 +5,7 @@ use Rattle.index_c.proofs.alarm_get.Tie as tie
 use Rattle.index_c.proofs.alarm_get.Reads as reads
 use Rattle.index_c.proofs.alarm_get.Lts as lts
 use Rattle.index.proofs.get.Reads as get-reads
-use Rattle.index_c.proofs.tell.tell_get.Reads as tell-get-reads
+use Rattle.index_c_told.proofs.tell_get.Reads as tell-get-reads
 
 -- src/lib.rt:69:9
 get-requires : tie.Need-get-requires

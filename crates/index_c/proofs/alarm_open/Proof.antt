@@ -8,8 +8,8 @@ use Rattle.index_c.proofs.alarm_open.Tie as tie
 use Rattle.index_c.proofs.alarm_open.Reads as reads
 use Rattle.index_c.proofs.alarm_open.Lts as lts
 use Rattle.index.proofs.open.Reads as open-reads
-use Rattle.index_c.proofs.given.settings.Reads as settings-reads
-use Rattle.index_c.proofs.tell.tell_open.Reads as tell-open-reads
+use Rattle.index_c_given.proofs.settings.Reads as settings-reads
+use Rattle.index_c_told.proofs.tell_open.Reads as tell-open-reads
 
 -- src/lib.rt:50:9
 settings-requires : tie.Need-settings-requires

@@ -5,12 +5,12 @@ use Rattle.tree.specs.Pool.{poolLen}
 use Rattle.model.specs.declared.Settings.{Settings}
 use Rattle.index.specs.Promise.{Where}
 use Rattle.model.specs.Sound.{InLimits}
-use Rattle.index_c.proofs.Reported.{len-wrong, len-limits, len-right}
+use Rattle.index_c.proofs.Outcomes.{len-wrong, len-limits, len-right}
 use Rattle.index_c.proofs.alarm_pool_len.Statement.{statement}
 use Rattle.index_c.proofs.alarm_pool_len.Tie as tie
 use Rattle.index_c.proofs.alarm_pool_len.Reads as reads
 use Rattle.index_c.proofs.alarm_pool_len.Lts as lts
-use Rattle.index_c.proofs.given.settings.Reads as settings-reads
+use Rattle.index_c_given.proofs.settings.Reads as settings-reads
 use Rattle.tree.proofs.in_limits.Reads as in-limits-reads
 use Rattle.tree.proofs.pool_len.Reads as pool-len-reads
 

@@ -1,12 +1,12 @@
 -- `alarm_read_frame` meets its contract. Assumes nothing.
 use borrow.Author.Needs.{needs}
-use Rattle.index_c.proofs.Reported.{read-reported}
+use Rattle.index_c.proofs.Outcomes.{read-reported}
 use Rattle.index_c.proofs.alarm_read_frame.Statement.{statement}
 use Rattle.index_c.proofs.alarm_read_frame.Tie as tie
 use Rattle.index_c.proofs.alarm_read_frame.Reads as reads
 use Rattle.index_c.proofs.alarm_read_frame.Lts as lts
-use Rattle.frame.proofs.read.Reads as read-reads
-use Rattle.index_c.proofs.tell.tell_reading.Reads as tell-reading-reads
+use Rattle.frame_read.proofs.read.Reads as read-reads
+use Rattle.index_c_told.proofs.tell_reading.Reads as tell-reading-reads
 
 -- src/lib.rt:120:9
 read-requires : tie.Need-read-requires

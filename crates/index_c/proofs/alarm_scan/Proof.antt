@@ -6,15 +6,15 @@ use Rattle.model.specs.declared.Direction.{Direction}
 use Rattle.look.specs.Calls.{requestFor}
 use Rattle.model.specs.Look.{Request}
 use Rattle.index.specs.Promise.{Scans}
-use Rattle.index_c.specs.Given.{boundFor, directionFor, siftFor}
+use Rattle.index_c_given.specs.Given.{boundFor, directionFor, siftFor}
 use Rattle.index_c.proofs.alarm_scan.Statement.{statement}
 use Rattle.index_c.proofs.alarm_scan.Tie as tie
 use Rattle.index_c.proofs.alarm_scan.Reads as reads
 use Rattle.index_c.proofs.alarm_scan.Lts as lts
 use Rattle.index.proofs.scan.Reads as scan-reads
-use Rattle.index_c.proofs.given.bound.Reads as bound-reads
-use Rattle.index_c.proofs.given.direction.Reads as direction-reads
-use Rattle.index_c.proofs.tell.tell_scan.Reads as tell-scan-reads
+use Rattle.index_c_given.proofs.bound.Reads as bound-reads
+use Rattle.index_c_given.proofs.direction.Reads as direction-reads
+use Rattle.index_c_told.proofs.tell_scan.Reads as tell-scan-reads
 
 -- src/lib.rt:90:9
 bound-requires : tie.Need-bound-requires

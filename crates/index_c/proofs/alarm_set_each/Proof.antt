@@ -5,7 +5,7 @@ use Rattle.index_c.proofs.alarm_set_each.Tie as tie
 use Rattle.index_c.proofs.alarm_set_each.Reads as reads
 use Rattle.index_c.proofs.alarm_set_each.Lts as lts
 use Rattle.index.proofs.batch.Reads as batch-reads
-use Rattle.index_c.proofs.tell.tell_counts.Reads as tell-counts-reads
+use Rattle.index_c_told.proofs.tell_counts.Reads as tell-counts-reads
 
 -- src/lib.rt:89:9
 batch-requires : tie.Need-batch-requires

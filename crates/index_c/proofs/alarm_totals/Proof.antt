@@ -5,7 +5,7 @@ use Rattle.index_c.proofs.alarm_totals.Tie as tie
 use Rattle.index_c.proofs.alarm_totals.Reads as reads
 use Rattle.index_c.proofs.alarm_totals.Lts as lts
 use Rattle.index.proofs.totals.Reads as totals-reads
-use Rattle.index_c.proofs.tell.tell_totals.Reads as tell-totals-reads
+use Rattle.index_c_told.proofs.tell_totals.Reads as tell-totals-reads
 
 -- src/lib.rt:60:9
 totals-requires : tie.Need-totals-requires

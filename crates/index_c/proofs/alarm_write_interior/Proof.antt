@@ -3,16 +3,16 @@ use mathlib.Core.Path.{subst}
 use lib.ListN.{length}
 use borrow.Author.Needs.{needs}
 use Rattle.model.specs.Frame.{writeFrame}
-use Rattle.frame.specs.declared.Contents.{Contents}
-use Rattle.frame.specs.Contents.{frameOf}
-use Rattle.frame.specs.Answers.{Writes}
+use Rattle.frame_text.specs.declared.Contents.{Contents}
+use Rattle.frame_text.specs.Contents.{frameOf}
+use Rattle.frame_text.specs.Answers.{Writes}
 use Rattle.index_c.proofs.alarm_write_interior.Statement.{statement}
 use Rattle.index_c.proofs.alarm_write_interior.Tie as tie
 use Rattle.index_c.proofs.alarm_write_interior.Reads as reads
 use Rattle.index_c.proofs.alarm_write_interior.Lts as lts
-use Rattle.frame.proofs.write.Reads as write-reads
-use Rattle.index_c.proofs.given.interior.Reads as interior-reads
-use Rattle.index_c.proofs.tell.tell_length.Reads as tell-length-reads
+use Rattle.frame_write.proofs.write.Reads as write-reads
+use Rattle.index_c_given.proofs.interior.Reads as interior-reads
+use Rattle.index_c_told.proofs.tell_length.Reads as tell-length-reads
 
 -- src/lib.rt:155:9
 interior-requires : tie.Need-interior-requires

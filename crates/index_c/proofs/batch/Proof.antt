@@ -5,7 +5,7 @@ use Rattle.index_c.proofs.batch.Tie as tie
 use Rattle.index_c.proofs.batch.Reads as reads
 use Rattle.index_c.proofs.batch.Lts as lts
 use Rattle.index.proofs.batch.Reads as batch-reads
-use Rattle.index_c.proofs.tell.tell_counts.Reads as tell-counts-reads
+use Rattle.index_c_told.proofs.tell_counts.Reads as tell-counts-reads
 
 -- src/lib.rt:128:43
 slice-aggregate-batch : tie.Need-slice-aggregate-batch

@@ -18,7 +18,7 @@ use Rattle.tree.specs.Pool.{settingsIn, nodesIn, heightAt}
 use Rattle.tree.proofs.Opening.{exact-shape}
 use Rattle.survey.specs.Surveyed.{Headed}
 use Rattle.survey.specs.Spared.{Spared}
-use Rattle.survey.specs.Checked.{SoundTree}
+use Rattle.survey_node.specs.Checked.{SoundTree}
 use Rattle.survey.proofs.Verdicts.{unused-few, survey-not, sound-pool, pool-headed, pool-idle, pool-tree}
 use Rattle.survey.proofs.survey.Statement.{statement}
 use Rattle.survey.proofs.survey.Tie as tie

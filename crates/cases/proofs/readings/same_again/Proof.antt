@@ -9,8 +9,8 @@ use Rattle.cases.proofs.readings.same_again.Tie as tie
 use Rattle.cases.proofs.readings.same_again.Reads as reads
 use Rattle.cases.proofs.readings.same_again.Lts as lts
 use Rattle.cases.proofs.expect.starts.Reads as starts-reads
-use Rattle.frame.proofs.read.Reads as read-reads
-use Rattle.frame.proofs.write.Reads as write-reads
+use Rattle.frame_read.proofs.read.Reads as read-reads
+use Rattle.frame_write.proofs.write.Reads as write-reads
 
 -- src/readings.rt:235:9
 returns : tie.Need-returns

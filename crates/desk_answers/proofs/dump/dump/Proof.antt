@@ -1,6 +1,5 @@
 -- A frame a turn, until there is none. Assumes nothing.
-use Rattle.desk_answers.proofs.Shows.{fits, feed-inside, rest-put, of-the-rest}
-use Rattle.desk_answers.proofs.Shows.{Shown, none-shown, one-more, sixteen, ended, refused-at-once}
+use Rattle.desk_answers.proofs.Shows.{fits, feed-inside, rest-put, of-the-rest, Shown, none-shown, one-more, sixteen, ended, refused-at-once}
 use Prim.Native.Nat.{_-_}
 use mathlib.Core.Path.{_≡_, refl, sym, ap, _∙_, subst}
 use native.Mathlib.Omega.{arith}

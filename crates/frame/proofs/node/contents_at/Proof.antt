@@ -8,14 +8,14 @@ use lib.ListN.{length, take, getD, set, replicate}
 use borrow.Author.Needs.{needs}
 use Rattle.words.specs.Words.{words}
 use Rattle.slots.specs.Nodes.{nodes, nth}
-use Rattle.slots.specs.Slots.{blank}
-use Rattle.slots.specs.declared.Row.{Row}
+use Rattle.slots_raw.specs.Slots.{blank}
+use Rattle.slots_raw.specs.declared.Row.{Row}
 use Rattle.frame.specs.Walk.{entryFor}
-use Rattle.frame.specs.Contents.{padded, held}
-use Rattle.frame.specs.declared.FrameEntry.{FrameEntry}
+use Rattle.frame_text.specs.Contents.{padded, held}
+use Rattle.frame_text.specs.declared.FrameEntry.{FrameEntry}
 use Rattle.frame.proofs.Noded.{numbered, numbered-long, numbered-more, contents-numbered, size-fits}
 use Rattle.frame.proofs.Walks.{passed, passed-more, passed-few, nodes-tree, standing-at}
-use Rattle.frame.proofs.Coded.{padded-more}
+use Rattle.frame_text.proofs.Coded.{padded-more}
 use Rattle.frame.proofs.node.contents_at.Statement.{statement}
 use Rattle.frame.proofs.node.contents_at.Tie as tie
 use Rattle.frame.proofs.node.contents_at.Reads as reads

@@ -3,7 +3,7 @@ use mathlib.Core.Path.{ap, _∙_}
 use native.Mathlib.Omega.{arith}
 use borrow.Author.Needs.{needs}
 use Rattle.model.specs.declared.Totals.{Totals}
-use Rattle.frame.specs.Contents.{ofBranch}
+use Rattle.frame_text.specs.Contents.{ofBranch}
 use Rattle.frame.proofs.Noded.{entry-low, entry-high}
 use Rattle.frame.proofs.node.entry_for.Statement.{statement}
 use Rattle.frame.proofs.node.entry_for.Tie as tie

@@ -5,7 +5,7 @@ use lib.ListN.{getD}
 use borrow.Author.Needs.{needs}
 use Rattle.words.specs.Words.{words}
 use Rattle.slots.specs.Nodes.{nodes, nth}
-use Rattle.slots.specs.Slots.{blank}
+use Rattle.slots_raw.specs.Slots.{blank}
 use Rattle.frame.proofs.Noded.{under-leaf}
 use Rattle.frame.proofs.Walks.{nodes-child}
 use Rattle.frame.proofs.node.nodes_under.Statement.{statement}

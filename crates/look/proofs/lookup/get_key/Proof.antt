@@ -4,12 +4,12 @@ use mathlib.Core.List.{List, [], _∷_}
 use native.Mathlib.Omega.{arith}
 use borrow.Author.Needs.{needs}
 use Rattle.words.specs.Words.{words}
-use Rattle.slots.specs.declared.Row.{Row}
+use Rattle.slots_raw.specs.declared.Row.{Row}
 use Rattle.slots.specs.declared.Found.the-variants.{At}
 use Rattle.slots.specs.Nodes.{rowsAt}
 use Rattle.model.specs.declared.Entry.{Entry}
 use Rattle.tree.specs.Bridge.{entryOf}
-use Rattle.look.specs.Output.{page, enlistAll}
+use Rattle.look_output.specs.Output.{page, enlistAll}
 use Rattle.look.proofs.Descents.{grown-sorted, found-inside, found-listed}
 use Rattle.look.proofs.lookup.get_key.Statement.{statement}
 use Rattle.look.proofs.lookup.get_key.Tie as tie

@@ -11,8 +11,8 @@ use Rattle.slots.specs.Nodes.{nodes}
 use Rattle.model.specs.Tree.{entries}
 use Rattle.model.specs.Look.{found}
 use Rattle.tree.specs.Bridge.{treeAt}
-use Rattle.look.specs.Output.{page, enlistAll, freshPage}
-use Rattle.look.proofs.Outputs.{ended}
+use Rattle.look_output.specs.Output.{page, enlistAll, freshPage}
+use Rattle.look_output.proofs.Outputs.{ended}
 use Rattle.look.proofs.Descents.{keys-next, keys-end}
 use Rattle.look.proofs.lookup.get_keys.Statement.{statement}
 use Rattle.look.proofs.lookup.get_keys.Tie as tie

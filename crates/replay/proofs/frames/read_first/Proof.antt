@@ -6,7 +6,7 @@ use Rattle.replay.proofs.frames.read_first.Statement.{statement}
 use Rattle.replay.proofs.frames.read_first.Tie as tie
 use Rattle.replay.proofs.frames.read_first.Reads as reads
 use Rattle.replay.proofs.frames.read_first.Lts as lts
-use Rattle.frame.proofs.read.Reads as read-reads
+use Rattle.frame_read.proofs.read.Reads as read-reads
 use Rattle.replay.proofs.frames.told.Reads as told-reads
 use Rattle.replay.proofs.told.amiss.Reads as amiss-reads
 use Rattle.replay.proofs.told.refused.Reads as refused-reads

@@ -1,7 +1,7 @@
 -- `key_at` meets its contract: its answer is the key of the row that it reads. Assumes nothing.
 use mathlib.Core.Path.{ap}
 use borrow.Author.Needs.{needs}
-use Rattle.slots.specs.declared.Row.{Row}
+use Rattle.slots_raw.specs.declared.Row.{Row}
 use Rattle.slots.proofs.find.key_at.Statement.{statement}
 use Rattle.slots.proofs.find.key_at.Tie as tie
 

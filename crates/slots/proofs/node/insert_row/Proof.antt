@@ -6,8 +6,8 @@ use native.Mathlib.Omega.{arith}
 use mathlib.Core.List.{[], _∷_}
 use borrow.Author.Needs.{needs}
 use Rattle.words.specs.Words.{words}
-use Rattle.slots.specs.Over.{over}
-use Rattle.slots.specs.Slots.{Raw, withCells, withHead}
+use Rattle.slots_raw.specs.Over.{over}
+use Rattle.slots_raw.specs.Slots.{Raw, withCells, withHead}
 use Rattle.slots.proofs.Nodes.{again, opened-now}
 use Rattle.slots.proofs.node.insert_row.Statement.{statement}
 use Rattle.slots.proofs.node.insert_row.Tie as tie

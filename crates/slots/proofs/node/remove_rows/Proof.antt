@@ -5,8 +5,8 @@ use native.Mathlib.Omega.{arith}
 use lib.ListN.{replicate}
 use borrow.Author.Needs.{needs}
 use Rattle.words.specs.Words.{words}
-use Rattle.slots.specs.Over.{over}
-use Rattle.slots.specs.Slots.{Raw, withCells, withHead, blank}
+use Rattle.slots_raw.specs.Over.{over}
+use Rattle.slots_raw.specs.Slots.{Raw, withCells, withHead, blank}
 use Rattle.slots.proofs.Nodes.{again, closed-now}
 use Rattle.slots.proofs.node.remove_rows.Statement.{statement}
 use Rattle.slots.proofs.node.remove_rows.Tie as tie

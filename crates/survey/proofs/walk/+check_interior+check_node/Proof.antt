@@ -10,33 +10,33 @@ use borrow.Author.Tests.{not-true, not-false}
 use borrow.Fn.Kinds.{In}
 use borrow.Fn.PlainCycle.{Measures, is, falls, and}
 use Rattle.words.specs.Words.{words}
-use Rattle.slots.specs.declared.Row.{Row}
-use Rattle.slots.specs.Slots.{blank}
+use Rattle.slots_raw.specs.declared.Row.{Row}
+use Rattle.slots_raw.specs.Slots.{blank}
 use Rattle.slots.specs.Nodes.{rowsAt}
 use Rattle.model.proofs.Answers.{told-no}
 use Rattle.model.proofs.Lists.{all-at}
 use Rattle.tree.specs.Bridge.{childOf}
-use Rattle.survey.specs.declared.walk.Part.{Part}
-use Rattle.survey.specs.Checked.{Last, last, There, Head, Opened, Right, Checked, RowRight}
-use Rattle.survey.proofs.Rows.{right-rows, right-opened, right-tail}
-use Rattle.survey.proofs.Walks.{Going, going-none, checked-not, checked-end, turn-fault, turn-addable, turn-on}
-use Rattle.survey.proofs.Heads.{row-raw, head-count, tail-told}
+use Rattle.survey_node.specs.declared.Part.{Part}
+use Rattle.survey_node.specs.Checked.{Last, last, There, Head, Opened, Right, Checked, RowRight}
+use Rattle.survey_node.proofs.Rows.{right-rows, right-opened, right-tail}
+use Rattle.survey_node.proofs.Walks.{Going, going-none, checked-not, checked-end, turn-fault, turn-addable, turn-on}
+use Rattle.survey_node.proofs.Heads.{row-raw, head-count, tail-told}
 use Rattle.survey.proofs.walk.check_interior.Reads as check-interior
 use Rattle.survey.proofs.walk.check_interior.Kinds as check-interior-kinds
 use Rattle.survey.proofs.walk.+check_interior+check_node.Lts-check_interior as check-interior-lts
 use Rattle.survey.proofs.walk.check_node.Reads as check-node
 use Rattle.survey.proofs.walk.check_node.Kinds as check-node-kinds
 use Rattle.survey.proofs.walk.+check_interior+check_node.Lts-check_node as check-node-lts
-use Rattle.slots.proofs.raw_count.Reads as raw-count-reads
-use Rattle.slots.proofs.raw_row.Reads as raw-row-reads
-use Rattle.slots.proofs.tail_zero.Reads as tail-zero-reads
-use Rattle.survey.proofs.walk.begin.Reads as begin-reads
-use Rattle.survey.proofs.walk.check_leaf.Reads as check-leaf-reads
-use Rattle.tree.proofs.child_of.Reads as child-of-reads
-use Rattle.survey.proofs.walk.fault.Reads as fault-reads
-use Rattle.survey.proofs.walk.grow.Reads as grow-reads
-use Rattle.survey.proofs.walk.interior_right.Reads as interior-right-reads
-use Rattle.survey.proofs.walk.row_right.Reads as row-right-reads
+use Rattle.slots_raw.proofs.raw_count.Reads as raw-count-reads
+use Rattle.slots_raw.proofs.raw_row.Reads as raw-row-reads
+use Rattle.slots_pool.proofs.tail_zero.Reads as tail-zero-reads
+use Rattle.survey_node.proofs.begin.Reads as begin-reads
+use Rattle.survey_node.proofs.check_leaf.Reads as check-leaf-reads
+use Rattle.tree_rows.proofs.child_of.Reads as child-of-reads
+use Rattle.survey_node.proofs.fault.Reads as fault-reads
+use Rattle.survey_node.proofs.grow.Reads as grow-reads
+use Rattle.survey_node.proofs.interior_right.Reads as interior-right-reads
+use Rattle.survey_node.proofs.row_right.Reads as row-right-reads
 use Rattle.survey.proofs.walk.+check_interior+check_node.{statement}
 use Rattle.survey.proofs.walk.+check_interior+check_node.Tie.{close}
 

@@ -4,7 +4,7 @@ use native.Mathlib.Omega.{arith}
 use borrow.Author.Needs.{needs}
 use Rattle.words.specs.Words.{words}
 use Rattle.tree.specs.Bridge.{childOf}
-use Rattle.survey.proofs.Heads.{first-none, first-raw}
+use Rattle.survey_node.proofs.Heads.{first-none, first-raw}
 use Rattle.survey.proofs.walk.first_child.Statement.{statement}
 use Rattle.survey.proofs.walk.first_child.Tie as tie
 

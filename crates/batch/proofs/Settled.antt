@@ -1,0 +1,86 @@
+-- THE ROOT AFTER A CALL, by its result. Assumes nothing.
+use mathlib.Core.Path.{_≡_, refl, sym, ap, _∙_, subst}
+use mathlib.Core.List.{List, [], map}
+use Prim.Native.Nat.{ℕ, _+_}
+use native.Mathlib.Omega.{arith}
+use lib.ListN.{set}
+use Rattle.slots_raw.specs.declared.Row.{Row}
+use Rattle.slots.specs.Nodes.{Now, nodes, nth, putKind}
+use Rattle.slots.specs.Nodes as S
+use Rattle.slots.proofs.Nodes.{nth-same}
+use Rattle.model.specs.declared.Settings.{Settings}
+use Rattle.model.specs.Lists.{none, one}
+use Rattle.model.specs.Tree.{Tree, Index}
+use Rattle.model.specs.Change.{settleRoot}
+use Rattle.model.proofs.Lists.{all-head}
+use Rattle.tree.specs.Bridge.{treeAt, rowFor, nodeFor, unusedOf, HoldsIndex}
+use Rattle.tree.proofs.Cells.{kind-used}
+use Rattle.batch_share.specs.declared.ChangeResult.{ChangeResult}
+use Rattle.batch_share.specs.declared.ChangeResult.the-variants as Be
+use Rattle.batch_share.specs.Settle.{resultIs}
+use Rattle.tree.proofs.Unused.{used-in}
+use Rattle.tree.proofs.SoundHolds.{slot-read}
+use Rattle.batch_share.proofs.Places.{node-used}
+use Rattle.batch_share.proofs.Puts.{blank-set, low-same}
+use Rattle.batch_root.specs.Batch.{indexAt}
+use Rattle.batch_root.specs.Roots.{Returned, SettledRoot, Splits, Halved}
+use Rattle.batch_root.proofs.Indexes.{now-holds}
+use Rattle.batch_root.proofs.Sets.{no-blank, unused-same}
+
+module _ {st : Settings} {W : List ℕ} {h low : ℕ} {v : ChangeResult} (pre : Returned st W h low v) where
+  abbrev ns : List S.Node
+  ns = nodes st W
+
+  abbrev t : Tree h
+  t = treeAt (nodes st W) h 0
+
+  -- OVER-FULL: it is split
+  pub to-halve : v ≡ Be.Split → Splits st W h low
+  to-halve e = record { keeps = pre .keeps; lowest = pre .lowest; two = pre .two (ap resultIs e) }
+
+  pub split-settled : {W′ : List ℕ} {r : ℕ} → v ≡ Be.Split → Halved st W W′ h r → SettledRoot st W W′ h v (record { height = h + 1; low = r })
+  split-settled {W′} {r} e d =
+      subst (λ (u : ChangeResult). SettledRoot st W W′ h u (record { height = h + 1; low = r })) (sym e)
+      (record { becomes = d .becomes; height = omega arith; lowest = d .lowest })
+
+  -- EMPTY: it is a leaf again
+  abbrev bare : S.Node
+  bare = record { kind = 1; rows = nth (nodes st W) 0 .rows }
+
+  abbrev leaf : List S.Node
+  leaf = set (nodes st W) 0 bare
+
+  node : nth ns 0 ≡ nodeFor h t
+  node = ap (nth ns) (sym (slot-read ns h 0)) ∙ all-head (pre .keeps .holds .tree)
+
+  leaf-unused : unusedOf leaf ≡ unusedOf ns
+  leaf-unused = unused-same ns 0 bare (kind-used 0) (node-used ns h 0 t node)
+
+  leaf-holds : t .items ≡ [] → HoldsIndex leaf (record { height = 0; root = record { slot = t .slot; items = [] }; unused = unusedOf ns })
+  leaf-holds e =
+      let rows : nth ns 0 .rows ≡ [] = ap (λ (n : S.Node). n .rows) node ∙ ap (map (rowFor h)) e in
+      record {
+        tree = one (ap (nth leaf) (slot-read ns h 0) ∙ nth-same ns 0 bare (used-in ns 0 (node-used ns h 0 t node)) ∙ ap (λ (l : List Row). record { kind = 1; rows = l }) rows) none;
+        unused = leaf-unused;
+        blank = blank-set ns 0 bare (pre .keeps .holds .blank) (no-blank bare (kind-used 0));
+      }
+
+  pub gone-settled : {W′ : List ℕ} → v ≡ Be.Remove → Now st W W′ (putKind (nodes st W) 0 1) → SettledRoot st W W′ h v (record { height = 0; low = low })
+  unfolding putKind
+  gone-settled {W′} e w =
+      subst (λ (u : ChangeResult). SettledRoot st W W′ h u (record { height = 0; low = low })) (sym e)
+      (record {
+        becomes = now-holds st W W′ leaf _ w (leaf-holds (pre .gone (ap resultIs e)));
+        height = refl;
+        lowest = low-same st W W′ low (pre .lowest) (ap unusedOf (w .is) ∙ leaf-unused);
+      })
+
+  -- ANY OTHER: it stays
+  pub stays-settled : {u : ChangeResult} → v ≡ u → settleRoot (resultIs u) h t (unusedOf ns) ≡ indexAt ns h → SettledRoot st W W h v (record { height = h; low = low })
+  stays-settled e same =
+      let is : indexAt ns h ≡ settleRoot (resultIs v) h t (unusedOf ns) = sym same ∙ ap (λ (r : ChangeResult). settleRoot (resultIs r) h t (unusedOf ns)) (sym e) in
+      record {
+        becomes = record { held = pre .keeps .held; header = refl; holds = subst (HoldsIndex ns) is (pre .keeps .holds) };
+        height = ap (λ (x : Index). x .height) is;
+        lowest = pre .lowest;
+      }

@@ -1,0 +1,26 @@
+-- `settle_root` meets its contract, result by result (`proofs/Settled`). Assumes nothing.
+use mathlib.Core.Path.{refl}
+use borrow.Author.Needs.{needs}
+use Rattle.batch.proofs.Settled.{to-halve, split-settled, gone-settled, stays-settled}
+use Rattle.batch.proofs.settle_root.Statement.{statement}
+use Rattle.batch.proofs.settle_root.Tie as tie
+
+pub settle-root-spec : {M : Type 1} → statement M
+settle-root-spec =
+    tie.close
+    (tie.spec
+    (λ c. search needs)
+    (λ c κs. to-halve (c .before .before .before .before .pre) (c .before .enum-told .given .1))
+    (λ c. search needs)
+    (λ c. search needs)
+    (λ c. split-settled (c .before .before .before .before .before .before .before .pre) (c .before .before .before .before .enum-told .given .1) (c .before .before .split-root .ensures))
+    (λ c. search needs)
+    (λ c κs. search needs)
+    (λ c. search needs)
+    (λ c. gone-settled (c .before .before .before .before .before .before .before .pre) (c .before .before .before .before .enum-told2 .given .1) (c .before .before .set-kind .ensures))
+    (λ c. search needs)
+    (λ c. stays-settled (c .before .before .before .pre) (c .enum-told3 .given .1) refl)
+    (λ c. search needs)
+    (λ c. stays-settled (c .before .before .before .pre) (c .enum-told4 .given .1) refl)
+    (λ c. search needs)
+    (λ c. stays-settled (c .before .before .before .pre) (c .enum-told5 .given .1) refl))

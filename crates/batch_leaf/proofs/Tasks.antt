@@ -1,0 +1,86 @@
+-- The tasks of a batch by their place, and what taking them leaves alone. Assumes nothing.
+use mathlib.Core.Path.{_≡_, refl, subst}
+use mathlib.Core.Bool.{Bool, _&&_, _||_}
+use mathlib.Core.List.{List, [], _∷_}
+use Prim.Native.Nat.{ℕ, zero, suc, _+_, _≤_, _<_}
+use native.Mathlib.Nat.{not-suc-le-zero, le-of-suc-le-suc}
+use native.Mathlib.Omega.{arith}
+use lib.Dec.{leb}
+use lib.ListN.{length, getD, drop, drop-of-length-le}
+use Rattle.model.specs.declared.Reference.{Reference}
+use Rattle.model.specs.declared.Entry.{Entry}
+use Rattle.model.specs.declared.Operation.{Operation}
+use Rattle.model.specs.declared.Operation.the-variants as Op
+use Rattle.model.specs.declared.Action.the-variants as Do
+use Rattle.model.specs.Plain.{Task, Wish, always, ifMet, each, pairs, references, step, effectOn, alters}
+use Rattle.model.specs.Change.{Run, Walked, takeTasks, counted}
+use Rattle.model.proofs.Lists.{by-test}
+use Rattle.batch_effect.specs.Deeds.{refOf}
+use Rattle.batch_leaf.specs.Leaf.{Lent, tasksOf}
+use Rattle.batch_leaf.specs.Keys.{taskOf}
+
+-- THE NEXT TASK
+
+each-next : (w : Wish) (ks : List ℕ) (n : ℕ) → n < length ks → drop n (each w ks) ≡ record { key = getD ks n 0; wish = w } ∷ drop (suc n) (each w ks)
+each-next w [] n h = absurd (not-suc-le-zero h)
+each-next w (k ∷ ks) zero h = refl
+each-next w (k ∷ ks) (suc n) h = each-next w ks n (le-of-suc-le-suc h)
+
+pairs-next : (ps zs ks : List ℕ) (n : ℕ) → n < length ks → length ks ≤ length ps → length ks ≤ length zs
+    → drop n (pairs (references ps zs) ks) ≡ taskOf (getD ks n 0) Op.SetEach (refOf (getD ps n 0) (getD zs n 0)) ∷ drop (suc n) (pairs (references ps zs) ks)
+pairs-next ps zs [] n h p z = absurd (not-suc-le-zero h)
+pairs-next [] zs (k ∷ ks) n h p z = absurd (not-suc-le-zero p)
+pairs-next (a ∷ ps) [] (k ∷ ks) n h p z = absurd (not-suc-le-zero z)
+pairs-next (a ∷ ps) (b ∷ zs) (k ∷ ks) zero h p z = refl
+pairs-next (a ∷ ps) (b ∷ zs) (k ∷ ks) (suc n) h p z = pairs-next ps zs ks n (le-of-suc-le-suc h) (le-of-suc-le-suc p) (le-of-suc-le-suc z)
+
+pub task-next : (op : Operation) (ps zs ks : List ℕ) (n : ℕ) → n < length ks → Lent op ps zs (length ks)
+    → drop n (tasksOf op ps zs ks) ≡ taskOf (getD ks n 0) op (refOf (getD ps n 0) (getD zs n 0)) ∷ drop (suc n) (tasksOf op ps zs ks)
+task-next (Op.Set r) ps zs ks n h l = each-next (always (Do.Set r)) ks n h
+task-next Op.SetEach ps zs ks n h l = pairs-next ps zs ks n h (l .0) (l .1)
+task-next Op.Remove ps zs ks n h l = each-next (always Do.Remove) ks n h
+task-next (Op.Compare e a) ps zs ks n h l = each-next (ifMet e a) ks n h
+
+-- the reference of that task is lent
+lent-less : (op : Operation) (ps zs : List ℕ) (n m : ℕ) → m ≤ n → Lent op ps zs n → Lent op ps zs m
+lent-less (Op.Set r) ps zs n m h l = tt
+lent-less Op.SetEach ps zs n m h l = (omega (arith, l .0), omega (arith, l .1))
+lent-less Op.Remove ps zs n m h l = tt
+lent-less (Op.Compare e a) ps zs n m h l = tt
+
+pub lent-next : (op : Operation) (ps zs ks : List ℕ) (n : ℕ) → n < length ks → Lent op ps zs (length ks) → Lent op ps zs (n + 1)
+lent-next op ps zs ks n h l = lent-less op ps zs (length ks) (n + 1) (omega arith) l
+
+-- a SetEach has both lists
+pub lent-each : {op : Operation} (ps zs : List ℕ) (n : ℕ) → op ≡ Op.SetEach → Lent op ps zs n → (n ≤ length ps) × (n ≤ length zs)
+lent-each ps zs n e l = subst (λ (o : Operation). Lent o ps zs n) e l
+
+-- NO TASK IS LEFT behind the last key
+
+each-few : (w : Wish) (ks : List ℕ) → length (each w ks) ≤ length ks
+each-few w [] = omega arith
+each-few w (k ∷ ks) = omega (arith, each-few w ks)
+
+pairs-few : (rs : List Reference) (ks : List ℕ) → length (pairs rs ks) ≤ length ks
+pairs-few [] [] = omega arith
+pairs-few [] (k ∷ ks) = omega arith
+pairs-few (r ∷ rs) [] = omega arith
+pairs-few (r ∷ rs) (k ∷ ks) = omega (arith, pairs-few rs ks)
+
+tasks-few : (op : Operation) (ps zs ks : List ℕ) → length (tasksOf op ps zs ks) ≤ length ks
+tasks-few (Op.Set r) ps zs ks = each-few (always (Do.Set r)) ks
+tasks-few Op.SetEach ps zs ks = pairs-few (references ps zs) ks
+tasks-few Op.Remove ps zs ks = each-few (always Do.Remove) ks
+tasks-few (Op.Compare e a) ps zs ks = each-few (ifMet e a) ks
+
+pub task-none : (op : Operation) (ps zs ks : List ℕ) (n : ℕ) → length ks ≤ n → drop n (tasksOf op ps zs ks) ≡ []
+task-none op ps zs ks n h = drop-of-length-le (tasksOf op ps zs ks) {i = n} (omega (arith, tasks-few op ps zs ks))
+
+-- THE UNUSED SLOTS stay as they were where tasks are taken
+
+pub taken-unused : (limit ceiling : ℕ) (ts : List Task) (es : List Entry) (changed : Bool) (run : Run)
+    → takeTasks limit ceiling ts es changed run .run .unused ≡ run .unused
+taken-unused limit ceiling [] es changed run = refl
+taken-unused limit ceiling (t ∷ ts) es changed run =
+    by-test (λ (w : Walked Entry). w .run .unused ≡ run .unused) (leb (t .key) ceiling && leb (length es) limit)
+    (λ _. taken-unused limit ceiling ts (step t es) (changed || alters (effectOn t es)) (counted (effectOn t es) run)) (λ _. refl)

@@ -1,0 +1,97 @@
+// One leaf takes keys of a batch: the Rust's `modify_leaf`.
+//
+// What is done under a key is decided first (deeds), then done (key); the counts follow from the deed. The
+// leaf's rows afterwards, the keys left and the counts are those of the model's leaf, for every batch.
+ghost use mathlib.Core.Path.{_≡_};
+ghost use mathlib.Core.List.{List};
+ghost use Prim.Native.Nat.{ℕ, _+_};
+ghost use lib.ListN.{length, getD};
+ghost use Rattle.words.specs.Words.{words};
+ghost use Rattle.slots.specs.Nodes.{At, rowsAt};
+ghost use Rattle.batch_effect.specs.Deeds.{wishOf, refOf};
+ghost use Rattle.batch_leaf.specs.Leaf.{Leaf, Lent, Batch, Took, tasksOf};
+ghost use Rattle.batch_leaf.specs.Keys.{goesOn};
+
+mod key; // one key in a leaf
+
+use batch_effect::altered;
+use batch_effect::counted;
+use key::change_key;
+use model::Counts;
+use model::Operation;
+use model::Reference;
+use model::Settings;
+
+// How far a batch has come: the next key, whether the leaf changed, and the counts.
+pub struct Progress {
+    pub next: usize,
+    pub changed: bool,
+    pub counts: Counts,
+}
+
+// Leaf `s` takes keys, from key `at` on: the Rust's `modify_leaf`. It takes them until its length exceeds
+// the larger of its length at first and order; that is order, since no leaf comes with more.
+pub fn take_keys(
+    pool: &mut [u8],
+    st: Settings,
+    s: usize,
+    keys: &[u64],
+    places: &[u64],
+    sizes: &[u32],
+    op: Operation,
+    at: usize,
+    ceiling: u64,
+    counts: Counts,
+) -> Progress
+    requires { ⌜ Leaf st (words (now pool)) s × Batch op (now places) (now sizes) (now keys) at counts ⌝ }
+    ensures { λ r. let ks = now (keys .entry) in let ts = tasksOf op (now (places .entry)) (now (sizes .entry)) ks in ⌜ ((us : List ℕ) → Took st (words (now (pool .entry))) (words (now (pool .exit))) s ks ts at ceiling (record { unused = us; counts = counts }) r) ⌝ }
+{
+    let mut next = at;
+    let mut changed = false;
+    let mut c = counts;
+    while takes(pool, st, s, keys, next, ceiling) {
+        let key = keys[next];
+        let lent = lent_at(op, places, sizes, next);
+        let d = change_key(pool, st, s, key, op, lent);
+        changed = altered(changed, d);
+        c = counted(c, d);
+        next += 1;
+    }
+    Progress {
+        next,
+        changed,
+        counts: c,
+    }
+}
+
+// Whether leaf `s` takes key `next`.
+fn takes(pool: &[u8], st: Settings, s: usize, keys: &[u64], next: usize, ceiling: u64) -> bool
+    requires { ⌜ At st (words (now pool)) s ⌝ }
+    ensures { λ r. ⌜ r ≡ goesOn (now (keys .entry)) next ceiling (length (rowsAt st (words (now (pool .entry))) s)) (st .order) ⌝ }
+{
+    if next < keys.len() {
+        let key = keys[next];
+        if key <= ceiling {
+            let n = slots::count(pool, st, s);
+            return n <= st.order;
+        }
+    }
+    false
+}
+
+// The reference that is lent for key `i`, where the operation takes one for each key.
+fn lent_at(op: Operation, places: &[u64], sizes: &[u32], i: usize) -> Reference
+    requires { ⌜ Lent op (now places) (now sizes) (i + 1) ⌝ }
+    ensures { λ r. ⌜ wishOf op r ≡ wishOf op (refOf (getD (now (places .entry)) i 0) (getD (now (sizes .entry)) i 0)) ⌝ }
+{
+    match op {
+        Operation::Set(_) => Reference { place: 0, size: 0 },
+        Operation::SetEach => {
+            let place = places[i];
+            let size = sizes[i];
+            Reference { place, size }
+        }
+        Operation::Remove => Reference { place: 0, size: 0 },
+        Operation::Compare(_, _) => Reference { place: 0, size: 0 },
+    }
+}

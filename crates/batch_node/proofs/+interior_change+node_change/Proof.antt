@@ -1,0 +1,252 @@
+use Prim.Native.Nat.{ℕ, suc, _+_, _-_, _*_, _<_}
+use mathlib.Core.Path.{_≡_, refl, sym, _∙_, subst}
+use native.Mathlib.Omega.{arith}
+use lib.ListN.{length}
+use Rattle.words.specs.Words.{words}
+use Rattle.batch_node.specs.Calls.{Call, Came}
+use Rattle.batch_node.proofs.Rounds.{Roaming, round-start, round-at, round, next-in, child-in, child-call, pending, round-again, round-less, round-end}
+use borrow.Author.Needs.{needs}
+use borrow.Fn.Kinds.{In}
+use borrow.Fn.PlainCycle.{Measures, is, falls, and}
+use Rattle.batch_node.proofs.interior_change.Reads as interior-change
+use Rattle.batch_node.proofs.interior_change.Kinds as interior-change-kinds
+use Rattle.batch_node.proofs.+interior_change+node_change.Lts-interior_change as interior-change-lts
+use Rattle.batch_node.proofs.node_change.Reads as node-change
+use Rattle.batch_node.proofs.node_change.Kinds as node-change-kinds
+use Rattle.batch_node.proofs.+interior_change+node_change.Lts-node_change as node-change-lts
+use Rattle.batch_node.proofs.leaf_change.Reads as leaf-change-reads
+use Rattle.batch_settle.proofs.settle_child.Reads as settle-child-reads
+use Rattle.batch_seek.proofs.ceiling_for.Reads as ceiling-for-reads
+use Rattle.batch_seek.proofs.changed_by.Reads as changed-by-reads
+use Rattle.batch_seek.proofs.result_of.Reads as result-of-reads
+use Rattle.batch_seek.proofs.roams_on.Reads as roams-on-reads
+use Rattle.batch_seek.proofs.seek_child.Reads as seek-child-reads
+use Rattle.slots.proofs.count.Reads as count-reads
+use Rattle.slots.proofs.row_at.Reads as row-at-reads
+use Rattle.tree_rows.proofs.child_of.Reads as child-of-reads
+use Rattle.batch_node.proofs.+interior_change+node_change.{statement}
+use Rattle.batch_node.proofs.+interior_change+node_change.Tie.{close}
+
+-- the height falls round the cycle: a node of height h + 1 is an interior whose children have height h
+abbrev μ-interior-change : Measures 4 interior-change-kinds.ps ℕ
+μ-interior-change κs a = 2 * a .1 .1 .0 + 2
+
+abbrev μ-node-change : Measures 4 node-change-kinds.ps ℕ
+μ-node-change κs a = 2 * a .1 .1 .0 + 1
+
+abbrev interior-change-at : ℕ → In 4 interior-change-kinds.ps
+interior-change-at t =
+    and
+    4
+    interior-change-kinds.ps
+    (is 4 interior-change-kinds.ps μ-interior-change t)
+    interior-change.Pre
+
+abbrev interior-change-below : ℕ → In 4 interior-change-kinds.ps
+interior-change-below t =
+    and
+    4
+    interior-change-kinds.ps
+    (falls 4 interior-change-kinds.ps _<_ μ-interior-change t)
+    interior-change.Pre
+
+abbrev node-change-at : ℕ → In 4 node-change-kinds.ps
+node-change-at t =
+    and 4 node-change-kinds.ps (is 4 node-change-kinds.ps μ-node-change t) node-change.Pre
+
+abbrev node-change-below : ℕ → In 4 node-change-kinds.ps
+node-change-below t =
+    and 4 node-change-kinds.ps (falls 4 node-change-kinds.ps _<_ μ-node-change t) node-change.Pre
+
+abbrev ic : ℕ → interior-change-lts.Claims
+ic t = (
+  roams-on-reads.Asked,
+  roams-on-reads.Learnt,
+  seek-child-reads.Asked,
+  seek-child-reads.Learnt,
+  row-at-reads.Asked,
+  row-at-reads.Learnt,
+  child-of-reads.Asked,
+  child-of-reads.Learnt,
+  ceiling-for-reads.Asked,
+  ceiling-for-reads.Learnt,
+  node-change-below t,
+  node-change.Post,
+  settle-child-reads.Asked,
+  settle-child-reads.Learnt,
+  changed-by-reads.Asked,
+  changed-by-reads.Learnt,
+  count-reads.Asked,
+  count-reads.Learnt,
+  result-of-reads.Asked,
+  result-of-reads.Learnt,
+)
+
+abbrev nc : ℕ → node-change-lts.Claims
+nc t = (
+  leaf-change-reads.Asked,
+  leaf-change-reads.Learnt,
+  interior-change-below t,
+  interior-change.Post,
+)
+
+abbrev interior-change-Inv-loop : interior-change-lts.InvT-loop
+interior-change-Inv-loop pool₀ st below s keys places sizes op at ceiling low i₀ next₀ changed₀ c₀ lowest₀ pool i next changed c lowest =
+    Roaming st (words pool₀) (words pool) below s op places sizes keys at ceiling c₀ i next changed c lowest × (length pool ≡ length pool₀)
+
+abbrev interior-change-μ-loop : interior-change-lts.MeasureT-loop
+interior-change-μ-loop pool₀ st below s keys places sizes op at ceiling low i₀ next₀ changed₀ c₀ lowest₀ pool i next changed c lowest =
+    length keys - next
+
+-- src/lib.rt:102:5
+interior-change-loop-holds : (t : ℕ) → interior-change-lts.Need-loop-holds (ic t) (interior-change-at t) interior-change.Post interior-change-Inv-loop interior-change-μ-loop
+interior-change-loop-holds t c = (round-start (c .before .before .before .before .pre .1), refl)
+
+-- src/lib.rt:102:11
+interior-change-roams-on-requires : (t : ℕ) → interior-change-lts.Need-roams-on-requires (ic t) (interior-change-at t) interior-change.Post interior-change-Inv-loop interior-change-μ-loop
+interior-change-roams-on-requires t c κs = round-at (c .before .loop .inv .0)
+
+-- src/lib.rt:103:19
+interior-change-mul-key : (t : ℕ) → interior-change-lts.Need-mul-key (ic t) (interior-change-at t) interior-change.Post interior-change-Inv-loop interior-change-μ-loop
+interior-change-mul-key t c =
+    let w : c .before .before .before .loop .next < length (c .before .before .before .before .before .before .before .before .args .keys .now) = next-in (c .before .before .before .loop .inv .0) (sym (c .before .roams-on .ensures) ∙ c .if1 .taken) in
+    omega arith
+
+-- src/lib.rt:103:19
+interior-change-shared-slice-read-key : (t : ℕ) → interior-change-lts.Need-shared-slice-read-key (ic t) (interior-change-at t) interior-change.Post interior-change-Inv-loop interior-change-μ-loop
+interior-change-shared-slice-read-key t c = next-in (c .before .before .before .before .loop .inv .0) (sym (c .before .before .roams-on .ensures) ∙ c .before .if1 .taken)
+
+-- src/lib.rt:104:13
+interior-change-seek-child-requires : (t : ℕ) → interior-change-lts.Need-seek-child-requires (ic t) (interior-change-at t) interior-change.Post interior-change-Inv-loop interior-change-μ-loop
+interior-change-seek-child-requires t c κs = (round-at (c .before .before .before .before .before .loop .inv .0), child-in (c .before .before .before .before .before .loop .inv .0) (sym (c .before .before .before .roams-on .ensures) ∙ c .before .before .if1 .taken))
+
+-- src/lib.rt:105:13
+interior-change-row-at-requires : (t : ℕ) → interior-change-lts.Need-row-at-requires (ic t) (interior-change-at t) interior-change.Post interior-change-Inv-loop interior-change-μ-loop
+interior-change-row-at-requires t c κs =
+    let g = round-at (c .before .before .before .before .before .before .before .loop .inv .0) in
+    record { held = g .held; slot = g .slot; within = omega (arith, c .before .seek-child .ensures .within) }
+
+-- src/lib.rt:106:13
+interior-change-child-of-requires : (t : ℕ) → interior-change-lts.Need-child-of-requires (ic t) (interior-change-at t) interior-change.Post interior-change-Inv-loop interior-change-μ-loop
+interior-change-child-of-requires t c κs = tt
+
+-- src/lib.rt:107:13
+interior-change-ceiling-for-requires : (t : ℕ) → interior-change-lts.Need-ceiling-for-requires (ic t) (interior-change-at t) interior-change.Post interior-change-Inv-loop interior-change-μ-loop
+interior-change-ceiling-for-requires t c κs = tt
+
+-- src/lib.rt:108:13
+interior-change-node-change-requires : (t : ℕ) → interior-change-lts.Need-node-change-requires (ic t) (interior-change-at t) interior-change.Post interior-change-Inv-loop interior-change-μ-loop
+interior-change-node-change-requires t c κs = (
+  omega (arith, c .before .before .before .before .before .before .before .before .before .before .before .before .before .before .before .before .pre .0),
+  child-call (round (c .before .before .before .before .before .before .before .before .before .before .before .loop .inv .0) (sym (c .before .before .before .before .before .before .before .before .before .roams-on .ensures) ∙ c .before .before .before .before .before .before .before .before .if1 .taken)) (c .before .before .before .before .before .seek-child .ensures) (c .before .before .before .row-at .ensures) (c .before .before .child-of .ensures) (c .before .ceiling-for .ensures),
+)
+
+-- src/lib.rt:123:13
+interior-change-settle-child-requires : (t : ℕ) → interior-change-lts.Need-settle-child-requires (ic t) (interior-change-at t) interior-change.Post interior-change-Inv-loop interior-change-μ-loop
+interior-change-settle-child-requires t c κs =
+    pending (round (c .before .before .before .before .before .before .before .before .before .before .before .before .before .before .before .loop .inv .0) (sym (c .before .before .before .before .before .before .before .before .before .before .before .before .before .roams-on .ensures) ∙ c .before .before .before .before .before .before .before .before .before .before .before .before .if1 .taken)) (c .before .before .before .before .before .before .before .before .before .seek-child .ensures) (c .before .before .before .before .before .before .before .row-at .ensures) (c .before .before .before .before .before .before .child-of .ensures) (c .before .before .before .before .before .ceiling-for .ensures) (c .before .before .before .node-change .ensures)
+
+-- src/lib.rt:126:9
+interior-change-changed-by-requires : (t : ℕ) → interior-change-lts.Need-changed-by-requires (ic t) (interior-change-at t) interior-change.Post interior-change-Inv-loop interior-change-μ-loop
+interior-change-changed-by-requires t c κs = tt
+
+-- src/lib.rt:102:5
+interior-change-loop-less : (t : ℕ) → interior-change-lts.Need-loop-less (ic t) (interior-change-at t) interior-change.Post interior-change-Inv-loop interior-change-μ-loop
+interior-change-loop-less t c =
+    omega (
+      arith,
+      next-in (c .before .before .before .before .before .before .before .before .before .before .before .before .before .before .before .before .before .before .before .before .loop .inv .0) (sym (c .before .before .before .before .before .before .before .before .before .before .before .before .before .before .before .before .before .before .roams-on .ensures) ∙ c .before .before .before .before .before .before .before .before .before .before .before .before .before .before .before .before .before .if1 .taken),
+      round-less (round (c .before .before .before .before .before .before .before .before .before .before .before .before .before .before .before .before .before .before .before .before .loop .inv .0) (sym (c .before .before .before .before .before .before .before .before .before .before .before .before .before .before .before .before .before .before .roams-on .ensures) ∙ c .before .before .before .before .before .before .before .before .before .before .before .before .before .before .before .before .before .if1 .taken)) (c .before .before .before .before .before .before .before .before .before .before .before .before .before .before .seek-child .ensures) (c .before .before .before .before .before .before .before .before .before .before .before .before .row-at .ensures) (c .before .before .before .before .before .before .before .before .before .before .before .child-of .ensures) (c .before .before .before .before .before .before .before .before .before .before .ceiling-for .ensures) (c .before .before .before .before .before .before .before .before .node-change .ensures) (c .before .before .before .before .settle-child .ensures),
+    )
+
+-- src/lib.rt:102:5
+interior-change-loop-again : (t : ℕ) → interior-change-lts.Need-loop-again (ic t) (interior-change-at t) interior-change.Post interior-change-Inv-loop interior-change-μ-loop
+interior-change-loop-again t c = (
+  round-again (round (c .before .before .before .before .before .before .before .before .before .before .before .before .before .before .before .before .before .before .before .before .loop .inv .0) (sym (c .before .before .before .before .before .before .before .before .before .before .before .before .before .before .before .before .before .before .roams-on .ensures) ∙ c .before .before .before .before .before .before .before .before .before .before .before .before .before .before .before .before .before .if1 .taken)) (c .before .before .before .before .before .before .before .before .before .before .before .before .before .before .seek-child .ensures) (c .before .before .before .before .before .before .before .before .before .before .before .before .row-at .ensures) (c .before .before .before .before .before .before .before .before .before .before .before .child-of .ensures) (c .before .before .before .before .before .before .before .before .before .before .ceiling-for .ensures) (c .before .before .before .before .before .before .before .before .node-change .ensures) (c .before .before .before .before .settle-child .ensures) (c .before .changed-by .ensures),
+  c .before .before .before .before .settle-child .kept .0 ∙ c .before .before .before .before .before .before .before .before .node-change .kept .0 ∙ c .before .before .before .before .before .before .before .before .before .before .before .before .before .before .before .before .before .before .before .before .loop .inv .1,
+)
+
+-- src/lib.rt:131:9
+interior-change-count-requires : (t : ℕ) → interior-change-lts.Need-count-requires (ic t) (interior-change-at t) interior-change.Post interior-change-Inv-loop interior-change-μ-loop
+interior-change-count-requires t c κs = round-at (c .before .before .before .before .loop .inv .0)
+
+-- src/lib.rt:132:9
+interior-change-result-of-requires : (t : ℕ) → interior-change-lts.Need-result-of-requires (ic t) (interior-change-at t) interior-change.Post interior-change-Inv-loop interior-change-μ-loop
+interior-change-result-of-requires t c κs = tt
+
+-- src/lib.rt:80:1
+interior-change-same-length : (t : ℕ) → interior-change-lts.Need-same-length (ic t) (interior-change-at t) interior-change.Post interior-change-Inv-loop interior-change-μ-loop
+interior-change-same-length t c = c .before .before .before .before .before .before .loop .inv .1
+
+-- src/lib.rt:80:1
+interior-change-returns : (t : ℕ) → interior-change-lts.Need-returns (ic t) (interior-change-at t) interior-change.Post interior-change-Inv-loop interior-change-μ-loop
+interior-change-returns t c =
+    round-end (c .before .before .before .before .before .before .loop .inv .0) (c .result-of .result) (sym (c .before .before .before .before .roams-on .ensures) ∙ c .before .before .before .if1 .left) (c .before .count .ensures .is) (c .result-of .ensures)
+
+-- src/lib.rt:48:9
+node-change-leaf-change-requires : (t : ℕ) → node-change-lts.Need-leaf-change-requires (nc t) (node-change-at t) node-change.Post
+node-change-leaf-change-requires t c κs =
+    let a = c .before .before .before .before .before .before .args in
+    subst (λ (n : ℕ). Call (a .st) (words (a .pool .now)) n (a .s) (a .op) (a .places .now) (a .sizes .now) (a .keys .now) (a .at) (a .ceiling) (a .counts) (a .low)) (c .before .if1 .taken) (c .before .before .before .before .before .before .pre .1)
+
+-- src/lib.rt:48:9
+node-change-same-length : (t : ℕ) → node-change-lts.Need-same-length (nc t) (node-change-at t) node-change.Post
+node-change-same-length t c = search needs
+
+-- src/lib.rt:48:9
+node-change-returns : (t : ℕ) → node-change-lts.Need-returns (nc t) (node-change-at t) node-change.Post
+node-change-returns t c =
+    let a = c .before .before .before .before .before .before .before .before .before .args in
+    subst (λ (n : ℕ). Came (a .st) (words (a .pool .now)) (words (c .before .before .leaf-change .last .0)) n (a .s) (a .op) (a .places .now) (a .sizes .now) (a .keys .now) (a .at) (a .ceiling) (a .counts) (c .before .before .leaf-change .result)) (sym (c .before .before .before .before .if1 .taken)) (c .before .before .leaf-change .ensures)
+
+-- src/lib.rt:65:9
+node-change-sub-interior-change : (t : ℕ) → node-change-lts.Need-sub-interior-change (nc t) (node-change-at t) node-change.Post
+node-change-sub-interior-change t c = omega (arith, c .before .if1 .left)
+
+-- src/lib.rt:62:5
+node-change-interior-change-requires : (t : ℕ) → node-change-lts.Need-interior-change-requires (nc t) (node-change-at t) node-change.Post
+node-change-interior-change-requires t c κs =
+    let a = c .before .before .before .before .before .before .args in
+    let e : a .height ≡ suc (a .height - 1) = omega (arith, c .before .if1 .left) in
+    (omega (arith, c .before .before .before .before .before .before .pre .0), subst (λ (n : ℕ). Call (a .st) (words (a .pool .now)) n (a .s) (a .op) (a .places .now) (a .sizes .now) (a .keys .now) (a .at) (a .ceiling) (a .counts) (a .low)) e (c .before .before .before .before .before .before .pre .1))
+
+-- src/lib.rt:30:1
+node-change-same-length-2 : (t : ℕ) → node-change-lts.Need-same-length-2 (nc t) (node-change-at t) node-change.Post
+node-change-same-length-2 t c = search needs
+
+-- src/lib.rt:30:1
+node-change-returns-2 : (t : ℕ) → node-change-lts.Need-returns-2 (nc t) (node-change-at t) node-change.Post
+node-change-returns-2 t c =
+    let a = c .before .before .before .before .before .before .before .before .before .args in
+    let e : a .height ≡ suc (a .height - 1) = omega (arith, c .before .before .before .before .if1 .left) in
+    subst (λ (n : ℕ). Came (a .st) (words (a .pool .now)) (words (c .before .before .interior-change .last .0)) n (a .s) (a .op) (a .places .now) (a .sizes .now) (a .keys .now) (a .at) (a .ceiling) (a .counts) (c .before .before .interior-change .result)) (sym e) (c .before .before .interior-change .ensures)
+
+pub +interior-change+node-change-spec : {M : Type 1} → statement M
++interior-change+node-change-spec =
+    close μ-interior-change μ-node-change
+    (λ t. interior-change-lts.spec (ic t) (interior-change-at t) interior-change.Post interior-change-Inv-loop interior-change-μ-loop
+    (interior-change-loop-holds t)
+    (interior-change-roams-on-requires t)
+    (interior-change-mul-key t)
+    (interior-change-shared-slice-read-key t)
+    (interior-change-seek-child-requires t)
+    (interior-change-row-at-requires t)
+    (interior-change-child-of-requires t)
+    (interior-change-ceiling-for-requires t)
+    (interior-change-node-change-requires t)
+    (interior-change-settle-child-requires t)
+    (interior-change-changed-by-requires t)
+    (interior-change-loop-less t)
+    (interior-change-loop-again t)
+    (interior-change-count-requires t)
+    (interior-change-result-of-requires t)
+    (interior-change-same-length t)
+    (interior-change-returns t))
+    λ t. node-change-lts.spec (nc t) (node-change-at t) node-change.Post
+    (node-change-leaf-change-requires t)
+    (node-change-same-length t)
+    (node-change-returns t)
+    (node-change-sub-interior-change t)
+    (node-change-interior-change-requires t)
+    (node-change-same-length-2 t)
+    (node-change-returns-2 t)

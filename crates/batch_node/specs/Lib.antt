@@ -1,0 +1,2 @@
+-- `Calls` says what changing a node asks and answers.
+pub mod Calls

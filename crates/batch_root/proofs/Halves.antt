@@ -1,0 +1,268 @@
+-- A ROOT SPLIT, over nodes: its rows moved to the lowest unused slot, the upper half of them to the next, and a parent's two rows put into slot 0 leave
+-- the model's `splitRoot`. Assumes nothing.
+use mathlib.Core.Path.{_≡_, sym, ap, _∙_, subst}
+use mathlib.Core.Logic.{_≢_}
+use mathlib.Core.List.{List, [], _∷_, _++_}
+use Prim.Native.Nat.{ℕ, suc, _+_, _/_, _≤_, _<_}
+use native.Mathlib.Omega.{arith}
+use lib.ListN.{length, take, drop, set, length-map, take-append-drop}
+use lib.Seq.{getD-set-other}
+use Rattle.slots_raw.specs.declared.Row.{Row}
+use Rattle.slots.specs.Nodes.{nth, unused, withRows, splitNodes}
+use Rattle.slots.specs.Nodes as S
+use Rattle.slots.specs.Search.{Below, Lowest}
+use Rattle.slots.proofs.Nodes.{nth-same}
+use Rattle.slots_raw.proofs.Over.{map-take, map-drop}
+use Rattle.slots.proofs.Finds.{below-set}
+use Rattle.model.specs.Lists.{times, All, none, one}
+use Rattle.model.specs.Tree.{Item, Tree, len, slots, lowest, others}
+use Rattle.model.specs.Share.{half}
+use Rattle.model.specs.Change.{splitRoot}
+use Rattle.model.proofs.Lists.{all-append, all-left, all-right, all-head, all-tail, hit-same, hit-other}
+use Rattle.model.proofs.Trees.{slotsIn, slots-append}
+use Rattle.tree.specs.Bridge.{kindFor, rowFor, nodeFor, cellsOf, Stands, Holds, unusedOf, Blank, HoldsIndex, Apart}
+use Rattle.tree.proofs.Cells.{cells-append, agree-items, agree-tree, used-items, kind-used}
+use Rattle.tree.proofs.Unused.{used-in, unused-taken}
+use Rattle.tree.specs.Sums.{Sums}
+use Rattle.batch_share.specs.Weigh.{rowOver}
+use Rattle.batch_share.specs.Steps.{Bounded}
+use Rattle.batch_share.proofs.Weights.{row-over, sums-fit, bounded-left, bounded-right}
+use Rattle.batch_share.proofs.Places.{node-used}
+use Rattle.batch_share.proofs.Puts.{put-first, put-second, put-other, blank-set}
+use Rattle.batch_root.specs.Roots.{moved, crowned}
+use Rattle.batch_root.proofs.Sets.{no-blank, unused-same}
+
+-- a root that the nodes hold, and the slot that its lower half takes
+pub record Top (ns : List S.Node) (h : ℕ) (t : Tree h) (a : ℕ) : Type 0 where
+  pub root : t .slot ≡ 0
+  pub holds : Holds ns h t
+  pub apart : Apart h t
+  pub bounded : Bounded h (t .items)
+  pub empty : Blank ns
+  pub first : Lowest ns a
+  pub inside : a < length ns
+
+module _ {ns : List S.Node} {h : ℕ} {t : Tree h} {a : ℕ} (p : Top ns h t a) where
+  abbrev low-items : List (Item h)
+  low-items = take (half (len t)) (t .items)
+
+  abbrev high-items : List (Item h)
+  high-items = drop (half (len t)) (t .items)
+
+  node : nth ns 0 ≡ nodeFor h t
+  node = ap (nth ns) (sym (p .root)) ∙ all-head (p .holds)
+
+  used : nth ns 0 .kind ≢ 0
+  used = node-used ns h 0 t node
+
+  root-in : 0 < length ns
+  root-in = used-in ns 0 used
+
+  a-free : nth ns a .kind ≡ 0
+  a-free = p .first .here (p .inside)
+
+  a-root : a ≢ 0
+  a-root e = used (ap (λ (x : ℕ). nth ns x .kind) (sym e) ∙ a-free)
+
+  -- THE ROWS MOVED
+
+  abbrev bare : S.Node
+  bare = withRows (nth ns 0) []
+
+  moved-here : nth (moved ns a) a ≡ nth ns 0
+  moved-here = put-first ns a (nth ns 0) 0 bare a-root (p .inside)
+
+  moved-root : nth (moved ns a) 0 ≡ bare
+  moved-root = put-second ns a (nth ns 0) 0 bare root-in
+
+  pub moved-below : Below (moved ns a) a
+  moved-below = below-set (set ns a (nth ns 0)) a 0 bare (below-set ns a a (nth ns 0) (p .first .before) (λ lt. used)) (λ lt. used)
+
+  moved-blank : Blank (moved ns a)
+  moved-blank = blank-set (set ns a (nth ns 0)) 0 bare (blank-set ns a (nth ns 0) (p .empty) (no-blank (nth ns 0) used)) (no-blank bare used)
+
+  pub moved-unused : unusedOf (moved ns a) ≡ others (unusedOf ns)
+  moved-unused =
+      let same : nth (set ns a (nth ns 0)) 0 ≡ nth ns 0 = getD-set-other ns a 0 (nth ns 0) unused (λ e. a-root (sym e)) in
+      unused-same (set ns a (nth ns 0)) 0 bare used (λ z. used (ap (λ (n : S.Node). n .kind) (sym same) ∙ z))
+      ∙ unused-taken ns a (nth ns 0) (p .first) (p .inside) used .1
+
+  -- THE UPPER HALF IN ITS OWN SLOT
+  module _ {b : ℕ} (second : Lowest (moved ns a) b) (b-in : b < length (moved ns a)) where
+    b-free : nth (moved ns a) b .kind ≡ 0
+    b-free = second .here b-in
+
+    pub a-b : a ≢ b
+    a-b e = used (ap (λ (n : S.Node). n .kind) (sym (ap (nth (moved ns a)) (sym e) ∙ moved-here)) ∙ b-free)
+
+    b-root : b ≢ 0
+    b-root e = used (ap (λ (n : S.Node). n .kind) (sym (ap (nth (moved ns a)) e ∙ moved-root)) ∙ b-free)
+
+    pub b-unused : nth (moved ns a) b ≡ unused
+    b-unused = moved-blank b b-free
+
+    abbrev lower : Tree h
+    lower = record { slot = a; items = low-items }
+
+    abbrev upper : Tree h
+    upper = record { slot = b; items = high-items }
+
+    abbrev split : List S.Node
+    split = splitNodes (moved ns a) a b
+
+    abbrev whole : S.Node
+    whole = nth (moved ns a) a
+
+    abbrev high : S.Node
+    high = withRows whole (drop ((length (whole .rows) + 1) / 2) (whole .rows))
+
+    abbrev low : S.Node
+    low = withRows whole (take ((length (whole .rows) + 1) / 2) (whole .rows))
+
+    whole-is : whole ≡ nodeFor h t
+    whole-is = moved-here ∙ node
+
+    whole-used : whole .kind ≢ 0
+    whole-used = node-used (moved ns a) h a t whole-is
+
+    a-in : a < length (moved ns a)
+    a-in = used-in (moved ns a) a whole-used
+
+    middle : (length (whole .rows) + 1) / 2 ≡ half (len t)
+    middle = ap (λ (m : S.Node). (length (m .rows) + 1) / 2) whole-is ∙ ap (λ (j : ℕ). (j + 1) / 2) (length-map (t .items) (rowFor h))
+
+    split-lower : nth split a ≡ nodeFor h lower
+    split-lower =
+        put-second (moved ns a) b high a low a-in
+        ∙ ap (λ (j : ℕ). withRows whole (take j (whole .rows))) middle ∙ ap (λ (m : S.Node). withRows m (take (half (len t)) (m .rows))) whole-is
+        ∙ ap (λ (l : List Row). record { kind = kindFor h; rows = l }) (sym (map-take (rowFor h) (half (len t)) (t .items)))
+
+    split-upper : nth split b ≡ nodeFor h upper
+    split-upper =
+        put-first (moved ns a) b high a low (λ e. a-b (sym e)) b-in
+        ∙ ap (λ (j : ℕ). withRows whole (drop j (whole .rows))) middle ∙ ap (λ (m : S.Node). withRows m (drop (half (len t)) (m .rows))) whole-is
+        ∙ ap (λ (l : List Row). record { kind = kindFor h; rows = l }) (sym (map-drop (rowFor h) (half (len t)) (t .items)))
+
+    split-root : nth split 0 ≡ bare
+    split-root = put-other (moved ns a) b high a low 0 (λ e. b-root (sym e)) (λ e. a-root (sym e)) ∙ moved-root
+
+    pub split-bare : nth split 0 .rows ≡ []
+    split-bare = ap (λ (m : S.Node). m .rows) split-root
+
+    split-used : nth split 0 .kind ≢ 0
+    split-used z = used (ap (λ (m : S.Node). m .kind) (sym split-root) ∙ z)
+
+    split-in : 0 < length split
+    split-in = used-in split 0 split-used
+
+    split-below : Below split b
+    split-below = below-set (set (moved ns a) b high) b a low (below-set (moved ns a) b b high (second .before) (λ lt. whole-used)) (λ lt. whole-used)
+
+    split-blank : Blank split
+    split-blank = blank-set (set (moved ns a) b high) a low (blank-set (moved ns a) b high moved-blank (no-blank high whole-used)) (no-blank low whole-used)
+
+    split-unused : unusedOf split ≡ others (others (unusedOf ns))
+    split-unused =
+        let same : nth (set (moved ns a) b high) a ≡ whole = getD-set-other (moved ns a) b a high unused a-b in
+        unused-same (set (moved ns a) b high) a low whole-used (λ z. whole-used (ap (λ (m : S.Node). m .kind) (sym same) ∙ z))
+        ∙ unused-taken (moved ns a) b high second b-in whole-used .1 ∙ ap others moved-unused
+
+    -- the halves are held: no slot below the root is 0, a or b
+    kept : (x : ℕ) → 0 < times x (slotsIn h (t .items)) → nth split x ≡ nth ns x
+    kept x g =
+        let u : nth ns x .kind ≢ 0 = used-items ns h (t .items) (all-tail (p .holds)) x g in
+        let x-root : x ≢ 0 = λ e. absurd (omega (arith, p .apart x, g, hit-same x (t .slot) (e ∙ sym (p .root)))) in
+        let x-a : x ≢ a = λ e. u (ap (λ (y : ℕ). nth ns y .kind) e ∙ a-free) in
+        let same : nth (moved ns a) x ≡ nth ns x = put-other ns a (nth ns 0) 0 bare x x-a x-root in
+        let x-b : x ≢ b = λ e. u (ap (λ (m : S.Node). m .kind) (sym same) ∙ ap (λ (y : ℕ). nth (moved ns a) y .kind) e ∙ b-free) in
+        put-other (moved ns a) b high a low x x-b x-a ∙ same
+
+    both : All (Stands split) (cellsOf h low-items ++ cellsOf h high-items)
+    both =
+        subst (All (Stands split)) (cells-append h low-items high-items)
+        (subst (λ (l : List (Item h)). All (Stands split) (cellsOf h l)) (sym (take-append-drop (half (len t)) (t .items)))
+        (agree-items ns split h (t .items) kept (all-tail (p .holds))))
+
+    lower-held : Holds split h lower
+    lower-held = one split-lower (all-left (cellsOf h low-items) (cellsOf h high-items) both)
+
+    upper-held : Holds split h upper
+    upper-held = one split-upper (all-right (cellsOf h low-items) (cellsOf h high-items) both)
+
+    -- THEIR ROWS
+
+    bounded : Bounded h (low-items ++ high-items)
+    bounded = subst (Bounded h) (sym (take-append-drop (half (len t)) (t .items))) (p .bounded)
+
+    low-bounded : Bounded h low-items
+    low-bounded = bounded-left h low-items high-items bounded
+
+    high-bounded : Bounded h high-items
+    high-bounded = bounded-right h low-items high-items bounded
+
+    pub lower-sums : Sums h (nth split a .rows)
+    lower-sums = subst (λ (m : S.Node). Sums h (m .rows)) (sym split-lower) (sums-fit h lower low-bounded)
+
+    pub upper-sums : Sums h (nth split b .rows)
+    upper-sums = subst (λ (m : S.Node). Sums h (m .rows)) (sym split-upper) (sums-fit h upper high-bounded)
+
+    lower-row : rowOver h a (nth split a .rows) ≡ rowFor (suc h) lower
+    lower-row = ap (λ (m : S.Node). rowOver h a (m .rows)) split-lower ∙ row-over h lower (low-bounded .small)
+
+    upper-row : rowOver h b (nth split b .rows) ≡ rowFor (suc h) upper
+    upper-row = ap (λ (m : S.Node). rowOver h b (m .rows)) split-upper ∙ row-over h upper (high-bounded .small)
+
+    -- THE PARENT
+
+    abbrev parent : Tree (suc h)
+    parent = record { slot = t .slot; items = lower ∷ upper ∷ [] }
+
+    abbrev pub above : List S.Node
+    above = set split 0 (nodeFor (suc h) parent)
+
+    pub crowned-is : crowned split h a b ≡ above
+    crowned-is = λ j. set split 0 (record { kind = 2; rows = lower-row j ∷ upper-row j ∷ [] })
+
+    -- slot 0 is in neither half
+    parted : (x : ℕ) → times x (slotsIn h low-items) + times x (slotsIn h high-items) ≡ times x (slotsIn h (t .items))
+    parted x = sym (slots-append x h low-items high-items) ∙ ap (λ (l : List (Item h)). times x (slotsIn h l)) (take-append-drop (half (len t)) (t .items))
+
+    stays : (y : Tree h) → y .slot ≢ 0 → ((x : ℕ) → times x (slotsIn h (y .items)) ≤ times x (slotsIn h (t .items))) → Holds split h y → Holds above h y
+    stays y ne le k =
+        agree-tree split above h y (λ x g. getD-set-other split 0 x (nodeFor (suc h) parent) unused (λ e. absurd (omega (
+          arith,
+          g,
+          hit-other x (y .slot) (λ q. ne (sym q ∙ e)),
+          le x,
+          p .apart x,
+          hit-same x (t .slot) (e ∙ sym (p .root)),
+        )))) k
+
+    holds : Holds above (suc h) parent
+    holds =
+        one (ap (nth above) (p .root) ∙ nth-same split 0 (nodeFor (suc h) parent) split-in)
+        (all-append (stays lower a-root (λ x. omega (arith, parted x)) lower-held)
+        (all-append (stays upper b-root (λ x. omega (arith, parted x)) upper-held)
+        none))
+
+    -- the slots that the halves took are the model's
+    taken : splitRoot h t (unusedOf ns) ≡ record { height = suc h; root = parent; unused = others (others (unusedOf ns)) }
+    taken =
+        let first : lowest (unusedOf ns) ≡ a = unused-taken ns a (nth ns 0) (p .first) (p .inside) used .0 in
+        let next : lowest (others (unusedOf ns)) ≡ b = ap lowest (sym moved-unused) ∙ unused-taken (moved ns a) b high second b-in whole-used .0 in
+        λ j. record {
+          height = suc h;
+          root = record { slot = t .slot; items = record { slot = first j; items = low-items } ∷ record { slot = next j; items = high-items } ∷ [] };
+          unused = others (others (unusedOf ns));
+        }
+
+    pub above-holds : HoldsIndex above (splitRoot h t (unusedOf ns))
+    above-holds =
+        subst (HoldsIndex above) (sym taken) (record {
+          tree = holds;
+          unused = unused-same split 0 (nodeFor (suc h) parent) (kind-used (suc h)) split-used ∙ split-unused;
+          blank = blank-set split 0 (nodeFor (suc h) parent) split-blank (no-blank (nodeFor (suc h) parent) (kind-used (suc h)));
+        })
+
+    pub above-below : Below above b
+    above-below = below-set split b 0 (nodeFor (suc h) parent) split-below (λ lt. kind-used (suc h))

@@ -1,0 +1,108 @@
+-- THE COLLAPSE, over the pool: one child that moves into slot 0, and the loop, whose collapse from here is the collapse from the start. Assumes nothing.
+use mathlib.Core.Path.{_≡_, refl, sym, ap, _∙_, subst}
+use mathlib.Core.Logic.{_≢_}
+use mathlib.Core.List.{List}
+use Prim.Native.Nat.{ℕ, suc, _<_}
+use native.Mathlib.Omega.{arith}
+use lib.ListN.{length, take, getD}
+use Rattle.slots_raw.specs.declared.Row.{Row}
+use Rattle.slots_raw.specs.Slots.{blank}
+use Rattle.slots.specs.Nodes.{Now, Give, nodes, nth, rowsAt, unused, putRows, putKind, put2, without, joinNodes}
+use Rattle.slots.specs.Nodes as S
+use Rattle.slots.proofs.Nodes.{length-nodes, fits-node, then, become}
+use Rattle.slots.proofs.Pairs.{kept-same, own-rows}
+use Rattle.model.specs.declared.Settings.{Settings}
+use Rattle.model.specs.Lists.{All}
+use Rattle.model.specs.Tree.{entriesOf}
+use Rattle.model.specs.Sound.{Fits}
+use Rattle.tree.specs.Bridge.{childOf, kindFor, HoldsIndex}
+use Rattle.batch_share.specs.Settle.{childAt}
+use Rattle.tree.proofs.SoundHolds.{slot-read}
+use Rattle.batch_root.specs.Batch.{indexAt}
+use Rattle.batch_root.specs.Roots.{Keeps, Becomes, Lone, lifted, collapsed}
+use Rattle.batch_root.proofs.Indexes.{index-read, now-holds}
+use Rattle.batch_root.proofs.Lifts.{none-left, raised, Single, child-root, child-in, raise, raise-holds, lifted-list, lifted-apart, lifted-same, ends-leaf, ends-wide}
+
+single : {st : Settings} {W : List ℕ} {h : ℕ} → Lone st W h → Single (nodes st W) h
+single p = record { holds = p .keeps .holds .tree; apart = p .keeps .apart; one = p .one }
+
+-- ONE CHILD, named by the root's row
+module _ {st : Settings} {W₀ : List ℕ} {h : ℕ} (pre : Lone st W₀ h) {row : Row} (er : row ≡ getD (rowsAt st W₀ 0) 0 blank)
+    {child : ℕ} (ec : child ≡ childOf row) where
+  abbrev ns : List S.Node
+  ns = nodes st W₀
+
+  slot-is : childAt ns h 0 0 .slot ≡ child
+  slot-is = slot-read ns h (childOf (getD (nth ns 0 .rows) 0 blank)) ∙ ap childOf (sym er) ∙ sym ec
+
+  away : child ≢ 0
+  away e = child-root (single pre) (slot-is ∙ e)
+
+  root-in : 0 < st .nodes
+  root-in = omega (arith, pre .keeps .held .shape .limits .many)
+
+  module _ {W₁ W₂ : List ℕ} {k : ℕ} (ek : k ≡ kindFor h) (out : Now st W₀ W₁ (putRows (nodes st W₀) 0 (without (rowsAt st W₀ 0) 0 1)))
+      (kinded : Now st W₁ W₂ (putKind (nodes st W₁) 0 k)) where
+    pub to-join : Give st W₂ child 0 (length (rowsAt st W₂ child))
+    to-join =
+        let bare : length (rowsAt st W₂ 0) ≡ 0 =
+        ap length (kept-same st W₁ W₂ 0 0 k kinded root-in ∙ own-rows st W₀ W₁ 0 (without (rowsAt st W₀ 0) 0 1) out root-in ∙ none-left (rowsAt st W₀ 0) (pre .one)) in
+        record {
+          held = kinded .held;
+          slot = omega (arith, slot-is, length-nodes st W₀, child-in (single pre));
+          slot2 = root-in;
+          apart = away;
+          has = omega arith;
+          room = omega (arith, bare, fits-node st W₂ child (kinded .held));
+        }
+
+    pub child-lifted : {W₃ : List ℕ} → Now st W₂ W₃ (joinNodes (nodes st W₂) 0 child) → Becomes st W₀ W₃ (lifted ns h)
+    child-lifted {W₃} joined =
+        let f : List S.Node → List S.Node = λ ms. putKind ms 0 k in
+        let g : List S.Node → List S.Node = λ ms. joinNodes ms 0 child in
+        let first : List S.Node = putRows ns 0 (without (nth ns 0 .rows) 0 1) in
+        now-holds st W₀ W₃ (raise (single pre)) (lifted ns h)
+        (become st W₀ W₃ (g (f first)) (raise (single pre)) (then g st W₀ W₂ W₃ (f first) (then f st W₀ W₁ W₂ first out kinded) joined)
+        (raised ns 0 child k away (omega (arith, length-nodes st W₀, root-in)) (pre .one)
+        ∙ ap (λ (j : ℕ). put2 ns 0 (record { kind = j; rows = nth ns child .rows }) child unused) ek
+        ∙ ap (λ (j : ℕ). put2 ns 0 (record { kind = kindFor h; rows = nth ns j .rows }) j unused) (sym slot-is)))
+        (raise-holds (single pre) (pre .keeps .holds .blank))
+
+-- THE LOOP
+
+pub record Sinking (st : Settings) (W₀ W : List ℕ) (h₀ h : ℕ) : Type 0 where
+  pub keeps : Keeps st W (indexAt (nodes st W) h)
+  pub header : take 4 W ≡ take 4 W₀
+  pub same : collapsed (indexAt (nodes st W) h) ≡ collapsed (indexAt (nodes st W₀) h₀)
+
+pub sink-start : {st : Settings} {W : List ℕ} {h : ℕ} → Keeps st W (indexAt (nodes st W) h) → Sinking st W W h h
+sink-start k = record { keeps = k; header = refl; same = refl }
+
+module _ {st : Settings} {W₀ W : List ℕ} {h₀ h : ℕ} (m : Sinking st W₀ W h₀ h) where
+  -- a root with one child, of height g, gives way to it
+  pub lone : {g : ℕ} → h ≡ suc g → length (rowsAt st W 0) ≡ 1 → Lone st W g
+  lone e q = record { keeps = subst (λ (n : ℕ). Keeps st W (indexAt (nodes st W) n)) e (m .keeps); one = q }
+
+  pub sink-on : {g : ℕ} {W′ : List ℕ} → h ≡ suc g → length (rowsAt st W 0) ≡ 1 → Becomes st W W′ (lifted (nodes st W) g) → Sinking st W₀ W′ h₀ g
+  sink-on {g} {W′} e q b =
+      let p : Lone st W g = lone e q in
+      let list = lifted-list (single p) in
+      let small : length (entriesOf (lifted (nodes st W) g)) < 1048576 = omega (arith, ap length list, p .keeps .small) in
+      let is : indexAt (nodes st W′) g ≡ lifted (nodes st W) g = index-read (nodes st W′) g (lifted (nodes st W) g) refl refl small (b .holds) in
+      let now : Keeps st W′ (lifted (nodes st W) g) =
+      record { held = b .held; holds = b .holds; apart = lifted-apart (single p); small = small; fit = subst (All Fits) (sym list) (p .keeps .fit) } in
+      record {
+        keeps = subst (Keeps st W′) (sym is) now;
+        header = b .header ∙ m .header;
+        same = ap collapsed is ∙ lifted-same (single p) ∙ ap (λ (n : ℕ). collapsed (indexAt (nodes st W) n)) (sym e) ∙ m .same;
+      }
+
+  sunk : collapsed (indexAt (nodes st W) h) ≡ indexAt (nodes st W) h → Becomes st W₀ W (collapsed (indexAt (nodes st W₀) h₀))
+  sunk e = record { held = m .keeps .held; header = m .header; holds = subst (HoldsIndex (nodes st W)) (sym e ∙ m .same) (m .keeps .holds) }
+
+  -- a leaf, and a root of any other number of children, stay
+  pub sink-leaf : h ≡ 0 → Becomes st W₀ W (collapsed (indexAt (nodes st W₀) h₀))
+  sink-leaf e = sunk (subst (λ (n : ℕ). collapsed (indexAt (nodes st W) n) ≡ indexAt (nodes st W) n) (sym e) (ends-leaf (nodes st W)))
+
+  pub sink-wide : {g : ℕ} → h ≡ suc g → length (rowsAt st W 0) ≢ 1 → Becomes st W₀ W (collapsed (indexAt (nodes st W₀) h₀))
+  sink-wide {g} e q = sunk (subst (λ (n : ℕ). collapsed (indexAt (nodes st W) n) ≡ indexAt (nodes st W) n) (sym e) (ends-wide (nodes st W) g q))

@@ -1,0 +1,106 @@
+-- What the functions on the root ask of the pool, and what they leave: the index that the model says. Assumes nothing.
+use Prim.Native.Nat.{ℕ, suc, _≤_, _<_}
+use mathlib.Core.Path.{_≡_}
+use mathlib.Core.Logic.{_≢_}
+use mathlib.Core.List.{List, [], _∷_}
+use lib.ListN.{length, take, set}
+use Rattle.slots.specs.Nodes.{Held, nodes, nth, rowsAt, put2, withRows}
+use Rattle.slots.specs.Nodes as S
+use Rattle.slots.specs.Search.{Lowest}
+use Rattle.model.specs.declared.Settings.{Settings}
+use Rattle.model.specs.Lists.{All}
+use Rattle.model.specs.Tree.{Index, entriesOf, release}
+use Rattle.model.specs.Change.{Split, Remove, splitRoot, settleRoot, collapse}
+use Rattle.model.specs.Sound.{Fits}
+use Rattle.tree.specs.Bridge.{treeAt, unusedOf, Blank, HoldsIndex, Apart}
+use Rattle.batch_share.specs.declared.ChangeResult.{ChangeResult}
+use Rattle.batch_share.specs.Settle.{resultIs, childAt}
+use Rattle.tree.specs.Sums.{Sums}
+use Rattle.batch_share.specs.Weigh.{rowOver}
+use Rattle.batch_root.specs.declared.Root.{Root}
+use Rattle.batch_root.specs.Batch.{indexAt}
+
+-- THE POOL BEFORE AND AFTER
+
+-- it holds x, no slot of it twice, and totals fit their places in a row
+pub record Keeps (st : Settings) (W : List ℕ) (x : Index) : Type 0 where
+  pub held : Held st W
+  pub holds : HoldsIndex (nodes st W) x
+  pub apart : Apart (x .height) (x .root)
+  pub small : length (entriesOf x) < 1048576
+  pub fit : All Fits (entriesOf x)
+
+-- it was W, and now holds x
+pub record Becomes (st : Settings) (W W′ : List ℕ) (x : Index) : Type 0 where
+  pub held : Held st W′
+  pub header : take 4 W′ ≡ take 4 W
+  pub holds : HoldsIndex (nodes st W′) x
+
+-- A ROOT THAT IS SPLIT
+
+pub record Splits (st : Settings) (W : List ℕ) (h low : ℕ) : Type 0 where
+  pub keeps : Keeps st W (indexAt (nodes st W) h)
+  pub lowest : Lowest (nodes st W) low
+  -- one slot for each half
+  pub two : 2 ≤ length (unusedOf (nodes st W))
+
+pub record Halved (st : Settings) (W W′ : List ℕ) (h r : ℕ) : Type 0 where
+  pub becomes : Becomes st W W′ (splitRoot h (treeAt (nodes st W) h 0) (unusedOf (nodes st W)))
+  pub lowest : Lowest (nodes st W′) r
+
+-- its rows go to a new node of its kind, in the lowest unused slot ..
+pub record Moves (st : Settings) (W : List ℕ) (low : ℕ) : Type 0 where
+  pub held : Held st W
+  pub empty : Blank (nodes st W)
+  pub lowest : Lowest (nodes st W) low
+  pub used : nth (nodes st W) 0 .kind ≢ 0
+  pub some : 0 < length (unusedOf (nodes st W))
+
+abbrev pub moved : List S.Node → ℕ → List S.Node
+moved ns new = put2 ns new (nth ns 0) 0 (withRows (nth ns 0) [])
+
+-- .. and it becomes the parent of that node and another, of height h
+pub record Crowns (st : Settings) (W : List ℕ) (h lower upper : ℕ) : Type 0 where
+  pub held : Held st W
+  pub slot : lower < st .nodes
+  pub slot2 : upper < st .nodes
+  pub sums : Sums h (rowsAt st W lower)
+  pub sums2 : Sums h (rowsAt st W upper)
+  pub bare : rowsAt st W 0 ≡ []
+
+abbrev pub crowned : List S.Node → ℕ → ℕ → ℕ → List S.Node
+crowned ns h lower upper = set ns 0 (record { kind = 2; rows = rowOver h lower (nth ns lower .rows) ∷ rowOver h upper (nth ns upper .rows) ∷ [] })
+
+-- A ROOT AFTER A CALL, with its result
+
+pub record Returned (st : Settings) (W : List ℕ) (h low : ℕ) (v : ChangeResult) : Type 0 where
+  pub keeps : Keeps st W (indexAt (nodes st W) h)
+  pub lowest : Lowest (nodes st W) low
+  -- a split takes a slot for each half
+  pub two : resultIs v ≡ Split → 2 ≤ length (unusedOf (nodes st W))
+  pub gone : resultIs v ≡ Remove → treeAt (nodes st W) h 0 .items ≡ []
+  -- one level more can be counted
+  pub bounded : h < 64
+
+pub record RootSettled (st : Settings) (W W′ : List ℕ) (x : Index) (r : Root) : Type 0 where
+  pub becomes : Becomes st W W′ x
+  pub height : r .height ≡ x .height
+  pub lowest : Lowest (nodes st W′) (r .low)
+
+abbrev pub SettledRoot : Settings → List ℕ → List ℕ → ℕ → ChangeResult → Root → Type 0
+SettledRoot st W W′ h v r = RootSettled st W W′ (settleRoot (resultIs v) h (treeAt (nodes st W) h 0) (unusedOf (nodes st W))) r
+
+-- A ROOT WITH ONE CHILD, of height h, gives way to it
+
+pub record Lone (st : Settings) (W : List ℕ) (h : ℕ) : Type 0 where
+  pub keeps : Keeps st W (indexAt (nodes st W) (suc h))
+  pub one : length (rowsAt st W 0) ≡ 1
+
+abbrev pub lifted : List S.Node → ℕ → Index
+lifted ns h =
+    let c = childAt ns h 0 0 in
+    record { height = h; root = record { slot = 0; items = c .items }; unused = release (c .slot) (unusedOf ns) }
+
+-- .. as long as there is one
+abbrev pub collapsed : Index → Index
+collapsed x = collapse (x .height) (x .root .slot) (x .root .items) (x .unused)

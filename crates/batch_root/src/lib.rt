@@ -1,0 +1,12 @@
+// What becomes of the root: one that is too long is split, one with a lone child gives way to it. It stays in slot 0.
+mod grow; // a root that is too long becomes the parent of its two halves
+mod shrink; // a root with one child gives way to it
+
+pub use grow::split_root;
+pub use shrink::collapse;
+
+// How high the root is, and the lowest unused slot, or the number of slots where there is none.
+pub struct Root {
+    pub height: usize,
+    pub low: usize,
+}

@@ -1,0 +1,92 @@
+use borrow.Author.Needs.{needs}
+use mathlib.Core.Path.{_≡_, refl}
+use Prim.Native.Nat.{_+_, _-_, _≤_, _<_}
+use native.Mathlib.Omega.{arith}
+use lib.ListN.{length, drop}
+use Rattle.words.specs.Words.{words}
+use Rattle.slots.specs.Nodes.{rowsAt}
+use Rattle.slots.specs.Search.{keyAt}
+use Rattle.batch_seek.specs.Seek.{skip}
+use Rattle.batch_seek.proofs.Seeks.{skip-stop, skip-on, skip-last}
+use Rattle.batch_seek.proofs.seek_child.Statement.{statement}
+use Rattle.batch_seek.proofs.seek_child.Tie as tie
+use Rattle.batch_seek.proofs.seek_child.Reads as reads
+use Rattle.batch_seek.proofs.seek_child.Lts as lts
+use Rattle.slots.proofs.count.Reads as count-reads
+use Rattle.slots.proofs.key_at.Reads as key-at-reads
+
+abbrev Inv-loop : tie.InvT-loop
+Inv-loop pool st s from key n i₀ i =
+    (from ≤ i) × ((i < length (rowsAt st (words pool) s)) × (i + skip key (drop i (rowsAt st (words pool) s)) ≡ from + skip key (drop from (rowsAt st (words pool) s))))
+
+abbrev μ-loop : tie.MeasureT-loop
+μ-loop pool st s from key n i₀ i = n - i
+
+-- src/walk.rt:42:9
+count-requires : tie.Need-count-requires Inv-loop μ-loop
+count-requires c κs = search needs
+
+-- src/walk.rt:44:5
+loop-holds : tie.Need-loop-holds Inv-loop μ-loop
+loop-holds c = (omega arith, (c .before .before .pre .1, refl))
+
+-- src/walk.rt:44:11
+add-loop : tie.Need-add-loop Inv-loop μ-loop
+add-loop c = search needs
+
+-- src/walk.rt:45:13
+key-at-requires : tie.Need-key-at-requires Inv-loop μ-loop
+key-at-requires c κs = record { held = c .before .before .before .before .pre .0 .held; slot = c .before .before .before .before .pre .0 .slot; within = omega (arith, c .before .loop .inv .1 .0) }
+
+-- src/walk.rt:47:13
+returns : tie.Need-returns Inv-loop μ-loop
+returns c =
+    let a = c .before .before .before .before .before .before .args in
+    let l = rowsAt (a .st) (words (a .pool .now)) (a .s) in
+    let at = c .before .before .before .loop in
+    let n : at .i + 1 < length l = omega (arith, c .before .before .loop-test .taken, c .before .before .before .before .count .ensures .is) in
+    let k : a .key ≤ keyAt l (at .i) = omega (arith, c .if1 .taken, c .before .key-at .ensures) in
+    record { is = omega (arith, at .inv .1 .1, skip-stop (a .key) l (at .i) n k); within = at .inv .1 .0 }
+
+-- src/walk.rt:49:9
+add-i : tie.Need-add-i Inv-loop μ-loop
+add-i c = search needs
+
+-- src/walk.rt:44:5
+loop-less : tie.Need-loop-less Inv-loop μ-loop
+loop-less c = omega (arith, c .before .before .loop-test .taken)
+
+-- src/walk.rt:44:5
+loop-again : tie.Need-loop-again Inv-loop μ-loop
+loop-again c =
+    let a = c .before .before .before .before .before .before .args in
+    let l = rowsAt (a .st) (words (a .pool .now)) (a .s) in
+    let at = c .before .before .before .loop in
+    let n : at .i + 1 < length l = omega (arith, c .before .before .loop-test .taken, c .before .before .before .before .count .ensures .is) in
+    let k : keyAt l (at .i) < a .key = omega (arith, c .if1 .left, c .before .key-at .ensures) in
+    (omega (arith, at .inv .0), (n, omega (arith, at .inv .1 .1, skip-on (a .key) l (at .i) n k)))
+
+-- src/walk.rt:38:1
+returns-2 : tie.Need-returns-2 Inv-loop μ-loop
+returns-2 c =
+    let a = c .before .before .before .before .args in
+    let l = rowsAt (a .st) (words (a .pool .now)) (a .s) in
+    let at = c .before .loop in
+    let n : length l ≤ at .i + 1 = omega (arith, c .loop-test .left, c .before .before .count .ensures .is) in
+    record { is = omega (arith, at .inv .1 .1, skip-last (a .key) l (at .i) n); within = at .inv .1 .0 }
+
+pub seek-child-spec : {M : Type 1} → statement M
+seek-child-spec =
+    tie.close
+    (tie.spec
+    Inv-loop
+    μ-loop
+    count-requires
+    loop-holds
+    add-loop
+    key-at-requires
+    returns
+    add-i
+    loop-less
+    loop-again
+    returns-2)

@@ -1,0 +1,97 @@
+// The steps of the walk among a node's children that leave the pool as it is.
+ghost use mathlib.Core.Path.{_≡_};
+ghost use mathlib.Core.Bool.{_||_};
+ghost use Prim.Native.Nat.{_<_};
+ghost use lib.ListN.{length};
+ghost use Rattle.words.specs.Words.{words};
+ghost use Rattle.slots.specs.Nodes.{At, rowsAt};
+ghost use Rattle.model.specs.Change.{resultOf, isChange, ceilingFor};
+ghost use Rattle.batch_share.specs.Settle.{resultIs};
+ghost use Rattle.batch_seek.specs.Seek.{roams, Seeked};
+use batch_share::ChangeResult;
+use model::Settings;
+
+// Whether the walk of node `s` goes on from child `i` with key `next`.
+pub fn roams_on(
+    pool: &[u8],
+    st: Settings,
+    s: usize,
+    keys: &[u64],
+    next: usize,
+    ceiling: u64,
+    i: usize,
+) -> bool
+    requires { ⌜ At st (words (now pool)) s ⌝ }
+    ensures { λ r. ⌜ r ≡ roams (now (keys .entry)) next ceiling i (length (rowsAt st (words (now (pool .entry))) s)) ⌝ }
+{
+    if next < keys.len() {
+        let key = keys[next];
+        if key <= ceiling {
+            let n = slots::count(pool, st, s);
+            return i < n;
+        }
+    }
+    false
+}
+
+// The child of node `s`, from child `from` on, that `key` goes to: the first whose separator is not below it, or the last.
+pub fn seek_child(pool: &[u8], st: Settings, s: usize, from: usize, key: u64) -> usize
+    requires { ⌜ At st (words (now pool)) s × (from < length (rowsAt st (words (now pool)) s)) ⌝ }
+    ensures { λ r. ⌜ Seeked (rowsAt st (words (now (pool .entry))) s) from key r ⌝ }
+{
+    let n = slots::count(pool, st, s);
+    let mut i = from;
+    while i + 1 < n {
+        let separator = slots::key_at(pool, st, s, i);
+        if key <= separator {
+            return i;
+        }
+        i += 1;
+    }
+    i
+}
+
+// The ceiling handed down to a child: a key above the separator, which only the last child gets, is its own ceiling.
+pub fn ceiling_for(separator: u64, key: u64, ceiling: u64) -> u64
+    ensures { λ r. ⌜ r ≡ ceilingFor separator key ceiling ⌝ }
+{
+    if separator < key {
+        return key;
+    }
+    if separator < ceiling {
+        return separator;
+    }
+    ceiling
+}
+
+// Whether a node is changed once a child of it has this result.
+pub fn changed_by(was: bool, v: ChangeResult) -> bool
+    ensures { λ r. ⌜ r ≡ (was || isChange (resultIs v)) ⌝ }
+{
+    match v {
+        ChangeResult::Unchanged => was,
+        ChangeResult::Remove => true,
+        ChangeResult::Absorb => true,
+        ChangeResult::Changed => true,
+        ChangeResult::Split => true,
+    }
+}
+
+// What became of a node that has `n` rows now: document 01's node result.
+pub fn result_of(st: Settings, changed: bool, n: usize) -> ChangeResult
+    ensures { λ r. ⌜ resultIs r ≡ resultOf st changed n ⌝ }
+{
+    if changed {
+        if n == 0 {
+            return ChangeResult::Remove;
+        }
+        if n > st.order {
+            return ChangeResult::Split;
+        }
+        if n < st.minimum {
+            return ChangeResult::Absorb;
+        }
+        return ChangeResult::Changed;
+    }
+    ChangeResult::Unchanged
+}

@@ -1,0 +1,50 @@
+-- `share_next` meets its contract: the last child is split at most, another shares first (`Shares`). Assumes nothing.
+use mathlib.Core.Path.{sym, _∙_}
+use native.Mathlib.Omega.{arith}
+use Rattle.batch_share.proofs.Places.{parent-in}
+use Rattle.batch_share.proofs.Focuses.{poise-focus, focus-sits, focus-few}
+use Rattle.batch_share.proofs.Shares.{fits-next, next-none, next-asks, next-poised, next-left}
+use borrow.Author.Needs.{needs}
+use Rattle.batch_share.proofs.share.share_next.Statement.{statement}
+use Rattle.batch_share.proofs.share.share_next.Tie as tie
+
+count-requires : tie.Need-count-requires
+count-requires c κs = record { held = c .before .before .pre .family .held; slot = parent-in (c .before .before .pre .family) }
+
+add-if1 : tie.Need-add-if1
+add-if1 c = omega (arith, focus-few (poise-focus (c .before .before .before .pre)))
+
+returns : tie.Need-returns
+returns c = next-none _ _ _ (c .before .before .before .before .before .before .before .before .pre) (c .before .before .before .before .if1 .taken ∙ c .before .before .before .before .before .count .ensures .is) (c .before .before .split-over .ensures)
+
+child-len-requires : tie.Need-child-len-requires
+child-len-requires c κs = focus-sits (poise-focus (c .before .before .before .before .before .pre))
+
+returns-2 : tie.Need-returns-2
+returns-2 c = fits-next (c .before .before .before .before .before .before .before .before .pre) (omega (arith, c .if2 .taken, c .before .before .child-len .ensures))
+
+give-on-requires : tie.Need-give-on-requires
+give-on-requires c κs = next-asks _ (c .before .before .before .before .before .before .before .before .before .pre) (omega (arith, c .before .if2 .left, c .before .before .before .child-len .ensures)) (λ e. c .before .before .before .before .before .if1 .left (e ∙ sym (c .before .before .before .before .before .before .count .ensures .is)))
+
+split-over-requires-2 : tie.Need-split-over-requires-2
+split-over-requires-2 c κs = next-poised _ _ (c .before .before .before .before .before .before .before .before .before .before .before .before .before .pre) (omega (arith, c .before .before .before .before .before .if2 .left, c .before .before .before .before .before .before .before .child-len .ensures)) (λ e. c .before .before .before .before .before .before .before .before .before .if1 .left (e ∙ sym (c .before .before .before .before .before .before .before .before .before .before .count .ensures .is))) (c .before .before .before .give-on .ensures)
+
+returns-3 : tie.Need-returns-3
+returns-3 c = next-left _ _ _ _ (c .before .before .before .before .before .before .before .before .before .before .before .before .before .before .before .before .pre) (omega (arith, c .before .before .before .before .before .before .before .before .if2 .left, c .before .before .before .before .before .before .before .before .before .before .child-len .ensures)) (λ e. c .before .before .before .before .before .before .before .before .before .before .before .before .if1 .left (e ∙ sym (c .before .before .before .before .before .before .before .before .before .before .before .before .before .count .ensures .is))) (c .before .before .before .before .before .before .give-on .ensures) (c .before .before .split-over2 .ensures)
+
+pub share-next-spec : {M : Type 1} → statement M
+share-next-spec =
+    tie.close
+    (tie.spec
+    count-requires
+    add-if1
+    (λ c κs. search needs)
+    (λ c. search needs)
+    returns
+    child-len-requires
+    (λ c. search needs)
+    returns-2
+    give-on-requires
+    split-over-requires-2
+    (λ c. search needs)
+    returns-3)

@@ -1,0 +1,2 @@
+-- `Fills`: a loop that fills a list.
+pub mod Fills

@@ -1,0 +1,2 @@
+-- `Reported`: what reports an answer.
+pub mod Reported

@@ -1,0 +1,2 @@
+-- `Refuses` has the laws of the refusals of a batch.
+pub mod Refuses

@@ -1,0 +1,2 @@
+-- `Refusals` says how a batch is refused.
+pub mod Refusals

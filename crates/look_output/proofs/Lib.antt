@@ -1,0 +1,2 @@
+-- `Outputs` is for all that is listed.
+pub mod Outputs

@@ -1,0 +1,36 @@
+-- `spell_row` meets its contract: 24 bytes are three words, each of which is set (`spelled`). Assumes nothing.
+use mathlib.Core.Path.{ap, _∙_}
+use Prim.Native.Nat.{ℕ}
+use mathlib.Core.List.{List}
+use native.Mathlib.Omega.{arith}
+use lib.ListN.{set}
+use borrow.Author.Needs.{needs}
+use Rattle.words.specs.Words.{words}
+use Rattle.words.proofs.Laws.{length-words}
+use Rattle.look_output.proofs.Outputs.{spelled}
+use Rattle.look_output.proofs.spell_row.Statement.{statement}
+use Rattle.look_output.proofs.spell_row.Tie as tie
+
+put-requires : tie.Need-put-requires
+put-requires c κs = omega (arith, length-words (c .before .before .args .part .now))
+
+put-requires-2 : tie.Need-put-requires-2
+put-requires-2 c κs = omega (arith, length-words (c .before .before .before .before .before .before .args .part .now))
+
+put-requires-3 : tie.Need-put-requires-3
+put-requires-3 c κs = omega (arith, length-words (c .before .before .before .before .before .before .before .before .before .before .args .part .now))
+
+returns : tie.Need-returns
+returns c =
+    let start = c .before .before .before .before .before .before .before .before .before .before .before .before .before in
+    let p = start .args .part .now in
+    let row = start .args .row in
+    let first = c .before .before .before .before .before .before .before .before .before .before .put in
+    let second = c .before .before .before .before .before .before .put2 in
+    let third = c .before .before .put3 in
+    spelled (words p) (third .last .0) (row .key) (row .body) (row .size) (omega (arith, length-words p)) (omega arith)
+    (λ i. c .slice-known4 .given i .fits)
+    (third .ensures .0 ∙ ap (λ (l : List ℕ). set l 2 (row .size)) (second .ensures .0 ∙ ap (λ (l : List ℕ). set l 1 (row .body)) (first .ensures .0)))
+
+pub spell-row-spec : {M : Type 1} → statement M
+spell-row-spec = tie.close (tie.spec put-requires put-requires-2 put-requires-3 (λ c. search needs) returns)

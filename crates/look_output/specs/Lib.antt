@@ -1,0 +1,2 @@
+-- `Output` says how the lent output fills.
+pub mod Output

@@ -1,0 +1,88 @@
+-- A scan's walk: what it asks of rows, and what the nodes that it opens add to the output, one after the other. Assumes nothing.
+use Prim.Native.Nat.{ℕ, suc, _+_, _-_, _*_, _≤_, _<_}
+use mathlib.Core.Path.{_≡_}
+use mathlib.Core.Bool.{Bool, true, false, cond, _&&_}
+use mathlib.Core.List.{List, [], _∷_, map}
+use lib.ListN.{length}
+use lib.Dec.{leb}
+use Rattle.slots_raw.specs.declared.Row.{Row}
+use Rattle.slots.specs.Nodes.{nodes, Held}
+use Rattle.model.specs.declared.Entry.{Entry}
+use Rattle.model.specs.declared.Settings.{Settings}
+use Rattle.model.specs.declared.Bound.{Bound}
+use Rattle.model.specs.declared.Direction.{Direction}
+use Rattle.model.specs.declared.Direction.the-variants.{Up, Down}
+use Rattle.model.specs.Lists.{concat, keep}
+use Rattle.model.specs.Tree.{Tree}
+use Rattle.model.specs.Look.{Request, starts, ends, least, entered, openings}
+use Rattle.tree.specs.Bridge.{rowFor, childOf, childTotals, Holds, treeAt}
+use Rattle.look_scan.specs.declared.Scanned.{Scanned}
+use Rattle.look_scan.specs.declared.query.Query.{Query}
+use Rattle.look_output.specs.Output.{Page, page, enlistAll}
+
+-- WHAT A SCAN ASKS
+
+abbrev pub requestOf : Query → Request
+requestOf q = record { start = q .start; end = q .end; direction = q .direction; sift = q .sift }
+
+-- whether the child of an interior's row is opened, by the separator and the size sum that the row stores
+abbrev pub enters : Query → Row → Bool
+enters q r = starts (q .start) (r .key) && leb (least (q .sift)) (childTotals r .size)
+
+-- whether the loop over children goes on behind a separator
+abbrev pub goesOnBy : Direction → Bound → ℕ → Bool
+goesOnBy Up end key = ends end key
+goesOnBy Down end key = true
+
+abbrev pub goesOn : Query → ℕ → Bool
+goesOn q key = goesOnBy (q .direction) (q .end) key
+
+-- the place of the row that comes after j others, of n
+abbrev pub placeIn : Direction → ℕ → ℕ → ℕ
+placeIn Up n j = j
+placeIn Down n j = n - 1 - j
+
+pub record PlaceIn (q : Query) (n j i : ℕ) : Type 0 where
+  pub is : i ≡ placeIn (q .direction) n j
+  pub inside : i < n
+
+-- WHAT A WALK ADDS
+
+-- an output, and the nodes opened so far
+pub record Walk : Type 0 where
+  pub page : Page
+  pub opened : ℕ
+
+abbrev pub walkAt : List ℕ → Scanned → Walk
+walkAt out w = record { page = page out (record { written = w .written; more = w .more }); opened = w .opened }
+
+-- a node is opened, and adds some entries; once more was due than fits, no node is
+abbrev pub visit : ℕ → List Entry → Walk → Walk
+visit room es w = cond (w .page .listed .more) w (record { page = enlistAll room es (w .page); opened = w .opened + 1 })
+
+abbrev pub visitAll : ℕ → List (List Entry) → Walk → Walk
+visitAll room [] w = w
+visitAll room (es ∷ nodes) w = visitAll room nodes (visit room es w)
+
+-- the openings of some children, as `openings` has them
+abbrev pub openingsOf : Request → (h : ℕ) → List (Tree h) → List (List Entry)
+openingsOf q h cs = concat (map (openings q h) (keep (entered q (suc h)) cs))
+
+-- WHAT THE WALK ASKS of its output: there is room for so many entries, the listing has not ended, and the nodes opened can be counted
+pub record Open (out : List ℕ) (room : ℕ) (w : Scanned) (nodes : List (List Entry)) : Type 0 where
+  pub fits : 24 * room ≤ length out
+  pub fresh : w .more ≡ false
+  pub few : w .opened + length nodes ≤ 16384
+
+-- .. and of the tree: the nodes hold it
+pub record ToScan (st : Settings) (W : List ℕ) (h s : ℕ) (q : Query) (out : List ℕ) (room : ℕ) (w : Scanned) : Type 0 where
+  pub held : Held st W
+  pub tree : Holds (nodes st W) h (treeAt (nodes st W) h s)
+  pub ready : Open out room w (openings (requestOf q) h (treeAt (nodes st W) h s))
+
+-- the same of the child that a row names: the row is right
+pub record ToEnter (st : Settings) (W : List ℕ) (h : ℕ) (r : Row) (q : Query) (out : List ℕ) (room : ℕ) (w : Scanned) : Type 0 where
+  pub held : Held st W
+  pub tree : Holds (nodes st W) h (treeAt (nodes st W) h (childOf r))
+  pub row : r ≡ rowFor (suc h) (treeAt (nodes st W) h (childOf r))
+  pub ready : Open out room w (openingsOf (requestOf q) h (treeAt (nodes st W) h (childOf r) ∷ []))

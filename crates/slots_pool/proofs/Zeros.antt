@@ -1,0 +1,87 @@
+-- What a test for zero words tells of rows and of a slot. Assumes nothing.
+use mathlib.Core.Path.{_≡_, refl, sym, ap, _∙_}
+use mathlib.Core.Bool.{true}
+use Prim.Native.Nat.{ℕ, zero, suc, _+_, _-_, _*_, _≤_, _<_}
+use native.Mathlib.Nat.{sub-zero}
+use native.Mathlib.Omega.{arith}
+use mathlib.Core.List.{List, [], _∷_}
+use lib.ListN.{length, take, drop, replicate}
+use lib.Dec.{eqb}
+use borrow.Author.Tests.{eqb-true}
+use Rattle.words_runs.specs.Moves.{allZero}
+use Rattle.model.specs.declared.Settings.{Settings}
+use Rattle.model.proofs.Lists.{both-left, both-right}
+use Rattle.slots_raw.specs.Over.{part}
+use Rattle.model.specs.Answer.{Tells}
+use Rattle.slots_raw.specs.Slots.{rowsOf, blank, width, rawOf, rawAt, Shape, Base}
+use Rattle.slots.specs.Nodes.{unused, pad, rawFor}
+use Rattle.slots_pool.specs.Image.{flatRows, block}
+use Rattle.slots_raw.proofs.Over.{length-part}
+use Rattle.slots_raw.proofs.Raws.{zero-rows, rows-part, raw-words}
+use Rattle.slots.proofs.Pads.{last-part}
+use Rattle.slots_pool.proofs.Canons.{length-cells}
+use Rattle.slots_pool.proofs.Images.{flat-rows, block-back, raw-back}
+
+-- ---- zero words
+
+zeros-of : (l : List ℕ) → allZero l ≡ true → l ≡ replicate (length l) 0
+unfolding allZero
+zeros-of [] e = refl
+zeros-of (x ∷ l) e =
+    ap (_∷ l) (eqb-true x 0 (both-left (eqb x 0) (allZero l) e)) ∙ ap (0 ∷_) (zeros-of l (both-right (eqb x 0) (allZero l) e))
+
+all-zeros : (n : ℕ) → allZero (replicate n 0) ≡ true
+unfolding allZero
+all-zeros zero = refl
+all-zeros (suc n) = all-zeros n
+
+-- the test of n words tells whether they are n zeros, and so whatever that comes to
+tells : (l : List ℕ) (n : ℕ) {A : Type 0} → length l ≡ n → (l ≡ replicate n 0 → A) → (A → l ≡ replicate n 0) → Tells (allZero l) A
+tells l n e f g = record {
+  holds = λ t. f (zeros-of l t ∙ ap (λ (j : ℕ). replicate j 0) e);
+  told = λ a. ap allZero (g a) ∙ all-zeros n;
+}
+
+-- ---- blank rows and unused slots
+
+flat-blank : (n : ℕ) → flatRows (replicate n blank) ≡ replicate (n * 3) 0
+unfolding flatRows
+flat-blank zero = refl
+flat-blank (suc n) =
+    let e : suc n * 3 ≡ suc (suc (suc (n * 3))) = omega arith in
+    rw e (ap (λ (l : List ℕ). 0 ∷ 0 ∷ 0 ∷ l) (flat-blank n))
+
+pub block-unused : (order : ℕ) → block (rawFor order unused) ≡ replicate (width order) 0
+unfolding block rawFor pad
+block-unused order =
+    let e : 2 + 6 * order ≡ suc (suc (2 * order * 3)) = omega arith in
+    rw e (ap (λ (l : List ℕ). 0 ∷ 0 ∷ l) (ap (λ (n : ℕ). flatRows (replicate n blank)) (sub-zero (2 * order)) ∙ flat-blank (2 * order)))
+
+raw-zeros : (order : ℕ) → rawOf order (replicate (width order) 0) ≡ rawFor order unused
+raw-zeros order = ap (rawOf order) (sym (block-unused order)) ∙ raw-back order unused (omega arith)
+
+-- ---- the two tests
+
+module _ (st : Settings) (W : List ℕ) (s b : ℕ) (sh : Shape st W) (h : s < st .nodes) (at : Base st W s b) where
+  -- the rows from row n on
+  pub tail-tells : (n : ℕ) → n ≤ 2 * st .order
+      → Tells (allZero (take ((2 * st .order - n) * 3) (drop (b + (2 + n * 3)) W))) (drop n (rawAt st W s .cells) ≡ replicate (2 * st .order - n) blank)
+  unfolding part
+  tail-tells n g =
+      let k = 2 * st .order - n in
+      let l = part W (b + (2 + n * 3)) (k * 3) in
+      let size : length l ≡ k * 3 = length-part W (b + (2 + n * 3)) (k * 3) (omega arith) in
+      let rows : rowsOf k l ≡ drop n (rawAt st W s .cells) =
+      rows-part st W s sh h b n k (at .start) (omega arith) ∙ last-part (rawAt st W s .cells) n k (omega (arith, length-cells st W s)) in
+      tells l (k * 3) size (λ z. sym rows ∙ ap (rowsOf k) z ∙ zero-rows k) (λ a. sym (flat-rows k l size) ∙ ap flatRows (rows ∙ a) ∙ flat-blank k)
+
+  -- the whole slot
+  pub slot-tells : Tells (allZero (take (width (st .order)) (drop b W))) (rawAt st W s ≡ rawFor (st .order) unused)
+  unfolding part
+  slot-tells =
+      let order = st .order in
+      let l = part W b (width order) in
+      let size : length l ≡ width order = length-part W b (width order) (at .inside) in
+      let raw : rawAt st W s ≡ rawOf order l = raw-words st W s sh h b (at .start) in
+      tells l (width order) size (λ z. raw ∙ ap (rawOf order) z ∙ raw-zeros order)
+      (λ a. sym (block-back order l size) ∙ ap block (sym raw ∙ a) ∙ block-unused order)

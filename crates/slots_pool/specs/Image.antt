@@ -1,0 +1,25 @@
+-- From nodes back to words: header and nodes determine every word of a pool. Assumes nothing.
+use Prim.Native.Nat.{ℕ, _-_}
+use mathlib.Core.List.{List, [], _∷_, _++_}
+use lib.ListN.{replicate}
+use Rattle.slots_raw.specs.declared.Row.{Row}
+use Rattle.slots_raw.specs.Slots.{Raw}
+use Rattle.slots.specs.Nodes.{Node, unused, rawFor}
+
+-- the words of some rows
+unfoldable pub flatRows : List Row → List ℕ
+flatRows [] = []
+flatRows (r ∷ l) = r .key ∷ r .body ∷ r .size ∷ flatRows l
+
+-- the words of a slot
+unfoldable pub block : Raw → List ℕ
+block r = r .kind ∷ r .count ∷ flatRows (r .cells)
+
+-- the words of some nodes, slot after slot
+unfoldable pub image : ℕ → List Node → List ℕ
+image order [] = []
+image order (n ∷ ns) = block (rawFor order n) ++ image order ns
+
+-- the n nodes of a pool that was just opened: an empty leaf in slot 0, and every other slot unused
+abbrev pub newNodes : ℕ → List Node
+newNodes n = record { kind = 1; rows = [] } ∷ replicate (n - 1) unused

@@ -1,0 +1,90 @@
+-- The words of a pool as slots: four words of header, then a slot of 2 + 6 * order words for each node. A slot is a kind, a count and 2 * order rows
+-- of three words. Nothing here asks that a slot makes sense. Assumes nothing.
+use Prim.Native.Nat.{ℕ, zero, suc, _+_, _*_, _≤_, _<_}
+use mathlib.Core.Path.{_≡_}
+use mathlib.Core.List.{List, [], _∷_, map}
+use lib.ListN.{length, take, drop, getD, set}
+use Rattle.model.specs.declared.Settings.{Settings}
+use Rattle.model.specs.Sound.{InLimits}
+use Rattle.slots_raw.specs.declared.Row.{Row}
+
+-- ---- a slot
+
+-- how many words a slot has
+abbrev pub width : ℕ → ℕ
+width order = 2 + 6 * order
+
+-- a slot as it is stored: every row of it, those past the count too
+pub record Raw : Type 0 where
+  pub kind : ℕ
+  pub count : ℕ
+  pub cells : List Row
+
+-- a row of zeros
+abbrev pub blank : Row
+blank = record { key = 0; body = 0; size = 0 }
+
+-- the row that three words spell
+abbrev pub rowOf : List ℕ → Row
+rowOf l = record { key = getD l 0 0; body = getD l 1 0; size = getD l 2 0 }
+
+-- the first n pieces of l, each of S elements
+unfoldable pub chunks : ℕ → ℕ → List ℕ → List (List ℕ)
+chunks S zero l = []
+chunks S (suc n) l = take S l ∷ chunks S n (drop S l)
+
+-- the first n rows of some words
+unfoldable pub rowsOf : ℕ → List ℕ → List Row
+rowsOf n l = map rowOf (chunks 3 n l)
+
+-- the slot that some words spell
+unfoldable pub rawOf : ℕ → List ℕ → Raw
+rawOf order b = record { kind = getD b 0 0; count = getD b 1 0; cells = rowsOf (2 * order) (drop 2 b) }
+
+-- ---- the slots of a pool's words
+
+unfoldable pub slots : Settings → List ℕ → List Raw
+slots st W = map (rawOf (st .order)) (chunks (width (st .order)) (st .nodes) (drop 4 W))
+
+-- slot s; an unused one past the end
+unfoldable pub rawAt : Settings → List ℕ → ℕ → Raw
+rawAt st W s = getD (slots st W) s (rawOf (st .order) [])
+
+-- a slot with other rows, and with another kind and count
+abbrev pub withCells : Raw → List Row → Raw
+withCells r l = record { kind = r .kind; count = r .count; cells = l }
+
+abbrev pub withHead : Raw → ℕ → ℕ → Raw
+withHead r k c = record { kind = k; count = c; cells = r .cells }
+
+-- the slots with slot s so changed
+abbrev pub putCells : Settings → List ℕ → ℕ → List Row → List Raw
+putCells st W s l = set (slots st W) s (withCells (rawAt st W s) l)
+
+abbrev pub putHead : Settings → List ℕ → ℕ → ℕ → ℕ → List Raw
+putHead st W s k c = set (slots st W) s (withHead (rawAt st W s) k c)
+
+-- ---- what contracts say
+
+-- the settings are in limits, and W is as long as they say
+pub record Shape (st : Settings) (W : List ℕ) : Type 0 where
+  pub limits : InLimits st
+  pub size : length W ≡ 4 + st .nodes * width (st .order)
+
+-- n rows from i on are rows of slot s
+pub record Cells (st : Settings) (W : List ℕ) (s i n : ℕ) : Type 0 where
+  pub shape : Shape st W
+  pub slot : s < st .nodes
+  pub within : i + n ≤ 2 * st .order
+
+-- slot s starts at word b. `small` is what sums of places want
+pub record Base (st : Settings) (W : List ℕ) (s b : ℕ) : Type 0 where
+  pub start : b ≡ 4 + s * width (st .order)
+  pub inside : b + width (st .order) ≤ length W
+  pub small : length W ≤ 4000000
+
+-- W is W₀ with the slots `rs`
+pub record Wrote (st : Settings) (W₀ W : List ℕ) (rs : List Raw) : Type 0 where
+  pub shape : Shape st W
+  pub is : slots st W ≡ rs
+  pub header : take 4 W ≡ take 4 W₀

@@ -1,0 +1,126 @@
+// What the words of a row mean, and what the rows of a node add up to. A leaf's row is an entry: its key, its place and its size. An
+// interior's row is a child: its greatest key, its slot beside its live and dead entries, and its size sum.
+//
+// The crates of the index ask here, so that none but this one takes a child's row apart or puts one together.
+ghost use mathlib.Core.Path.{_≡_};
+ghost use Rattle.words.specs.Words.{words};
+ghost use Rattle.slots.specs.Nodes.{rowsAt};
+ghost use Rattle.model.specs.Answer.{Tells};
+ghost use Rattle.model.specs.Tree.{adds, plus, noTotals};
+ghost use Rattle.tree.specs.Bridge.{entryOf, childOf, childRow, childTotals, rowTotals};
+ghost use Rattle.tree.specs.Sums.{sumRows, Addable, Packs, Weighs};
+use model::Settings;
+use model::Totals;
+use slots_raw::Row;
+
+// The totals of the node of height `height` in slot `s`, from its rows alone (the Rust's `stats`).
+pub fn stats(pool: &[u8], st: Settings, height: usize, s: usize) -> Totals
+    requires { ⌜ Weighs st (words (now pool)) height s ⌝ }
+    ensures { λ r. ⌜ r ≡ sumRows height (rowsAt st (words (now (pool .entry))) s) ⌝ }
+{
+    let n = slots::count(pool, st, s);
+    let mut t = no_totals();
+    let mut i = 0;
+    while i < n {
+        let row = slots::row_at(pool, st, s, i);
+        let more = row_totals(height, row);
+        t = plus_totals(t, more);
+        i += 1;
+    }
+    t
+}
+
+// What a row of a node of height `height` adds to the node's totals.
+pub fn row_totals(height: usize, row: Row) -> Totals
+    ensures { λ r. ⌜ r ≡ rowTotals height row ⌝ }
+{
+    if height == 0 {
+        return entry_totals(row);
+    }
+    child_totals(row)
+}
+
+// What a leaf's row adds: its entry, which is dead if its place is 0.
+pub fn entry_totals(row: Row) -> Totals
+    ensures { λ r. ⌜ r ≡ adds (entryOf row) ⌝ }
+{
+    if row.body == 0 {
+        return Totals {
+            live: 0,
+            dead: 1,
+            size: row.size,
+        };
+    }
+    Totals {
+        live: 1,
+        dead: 0,
+        size: row.size,
+    }
+}
+
+// What an interior's row adds: what it stores of its child.
+pub fn child_totals(row: Row) -> Totals
+    ensures { λ r. ⌜ r ≡ childTotals row ⌝ }
+{
+    Totals {
+        live: (row.body / 0x10_0000 % 0x10_0000) as u32,
+        dead: (row.body % 0x10_0000) as u32,
+        size: row.size,
+    }
+}
+
+// The slot that an interior's row names.
+pub fn child_of(row: Row) -> usize
+    ensures { λ r. ⌜ r ≡ childOf row ⌝ }
+{
+    (row.body / 0x100_0000_0000) as usize
+}
+
+// The row of a child: its slot stands in the body above its counts, which have twenty bits each.
+pub fn child_row(key: u64, slot: usize, t: Totals) -> Row
+    requires { ⌜ Packs slot t ⌝ }
+    ensures { λ r. ⌜ r ≡ childRow key slot t ⌝ }
+{
+    let body = slot as u64 * 0x100_0000_0000 + t.live as u64 * 0x10_0000 + t.dead as u64;
+    Row {
+        key,
+        body,
+        size: t.size,
+    }
+}
+
+// The sum of two totals.
+pub fn plus_totals(a: Totals, b: Totals) -> Totals
+    requires { ⌜ Addable a b ⌝ }
+    ensures { λ r. ⌜ r ≡ plus a b ⌝ }
+{
+    Totals {
+        live: a.live + b.live,
+        dead: a.dead + b.dead,
+        size: a.size + b.size,
+    }
+}
+
+// Whether two totals are the same.
+pub fn same_totals(a: Totals, b: Totals) -> bool
+    ensures { λ r. ⌜ Tells r (a ≡ b) ⌝ }
+{
+    if a.live != b.live {
+        return false;
+    }
+    if a.dead != b.dead {
+        return false;
+    }
+    a.size == b.size
+}
+
+// The totals of no rows.
+pub fn no_totals() -> Totals
+    ensures { λ r. ⌜ r ≡ noTotals ⌝ }
+{
+    Totals {
+        live: 0,
+        dead: 0,
+        size: 0,
+    }
+}

@@ -1,0 +1,59 @@
+-- `clear` meets its contract. The loop's invariant: the `k` words from `from` on are 0, and the pool has kept its size. Assumes nothing.
+use mathlib.Core.Path.{_≡_, ap, _∙_}
+use Prim.Native.Nat.{ℕ, _+_, _-_, _≤_}
+use native.Mathlib.Omega.{arith}
+use mathlib.Core.List.{List}
+use lib.ListN.{set}
+use Rattle.words.specs.Words.{words, Same}
+use Rattle.words_runs.specs.Moves.{cleared}
+use Rattle.words.proofs.Laws.{same-refl, same-then}
+use Rattle.words_runs.proofs.Runs.{cleared-none, cleared-more}
+use Rattle.words_runs.proofs.clear.Statement.{statement}
+use Rattle.words_runs.proofs.clear.Tie as tie
+
+abbrev Inv-loop : tie.InvT-loop
+Inv-loop pool₀ from n k₀ pool k = (k ≤ n) × ((words pool ≡ cleared (words pool₀) from k) × Same pool₀ pool)
+
+abbrev μ-loop : tie.MeasureT-loop
+μ-loop pool₀ from n k₀ pool k = n - k
+
+loop-holds : tie.Need-loop-holds Inv-loop μ-loop
+loop-holds c =
+    let a = c .before .args in
+    (omega arith, (cleared-none (words (a .pool .now)) (a .from), same-refl (a .pool .now)))
+
+loop-again : tie.Need-loop-again Inv-loop μ-loop
+loop-again c =
+    let a = c .before .before .before .before .before .before .before .args in
+    let at = c .before .before .before .before .before .loop in
+    let put = c .before .before .put in (
+      omega arith,
+      (
+        put .ensures .0
+            ∙ ap (λ (l : List ℕ). set l (a .from + at .k) 0) (at .inv .1 .0)
+            ∙ cleared-more (words (a .pool .now)) (a .from) (at .k) (omega arith),
+        same-then (at .inv .1 .1) (put .ensures .1),
+      ),
+    )
+
+returns : tie.Need-returns Inv-loop μ-loop
+returns c =
+    let a = c .before .before .before .args in
+    let at = c .before .loop in
+    let e : at .k ≡ a .n = omega arith in
+    (at .inv .1 .0 ∙ ap (λ (j : ℕ). cleared (words (a .pool .now)) (a .from) j) e, at .inv .1 .1)
+
+pub clear-spec : {M : Type 1} → statement M
+clear-spec =
+    tie.close
+    (tie.spec
+    Inv-loop
+    μ-loop
+    loop-holds
+    (λ c. omega arith)
+    (λ c κs. omega arith)
+    (λ c. omega arith)
+    (λ c. omega arith)
+    loop-again
+    (λ c. omega arith)
+    returns)

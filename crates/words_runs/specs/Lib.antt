@@ -1,0 +1,2 @@
+-- `Moves` says what is done to a run of words.
+pub mod Moves
