@@ -1,6 +1,6 @@
 // One leaf takes keys of a batch: the Rust's `modify_leaf`.
 //
-// What is done under a key is decided first (deeds), then done (key); the counts follow from the deed. The
+// What is done under a key is decided first (crate batch_effect), then done (key); the counts follow from the deed. The
 // leaf's rows afterwards, the keys left and the counts are those of the model's leaf, for every batch.
 ghost use mathlib.Core.Path.{_≡_};
 ghost use mathlib.Core.List.{List};

@@ -1,7 +1,7 @@
 // One batch on the tree in a pool: node change calls interior change, which calls node change one level lower.
 //
-// A leaf takes keys (crate leaf); an interior node walks among its children, and settles each changed one
-// (crate settle). The nodes afterwards, the keys left and the counts are those of the model's `change`.
+// A leaf takes keys (crate batch_leaf); an interior node walks among its children, and settles each changed one
+// (crate batch_settle). The nodes afterwards, the keys left and the counts are those of the model's `change`.
 ghost use Prim.Native.Nat.{suc};
 ghost use Rattle.words.specs.Words.{words};
 ghost use Rattle.batch_node.specs.Calls.{Call, Came};

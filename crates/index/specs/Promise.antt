@@ -111,7 +111,7 @@ Scans l q out r out′ =
     (scanned r leaving out′)
 
 -- THE I-TH FRAME of the pool l, written into a line; every byte behind it is as it was. What writing a frame from a kind and entries, and reading one,
--- promise stands in crate frame (specs/Answers): these two are given no pool.
+-- promise stands in crate frame_text (specs/Answers): these two are given no pool.
 
 abbrev pub Frames : List ℕ → ℕ → List ℕ → WriteAnswer → List ℕ → Type 0
 Frames l i line r line′ =

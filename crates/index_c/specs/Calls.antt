@@ -1,4 +1,4 @@
--- What each call promises: it reports an answer that keeps the promise of crate index, or of crate frame where no pool is given. Assumes nothing.
+-- What each call promises: it reports an answer that keeps the promise of crate index, or of crate frame_text where no pool is given. Assumes nothing.
 use Prim.Native.Nat.{ℕ}
 use mathlib.Core.Path.{_≡_}
 use mathlib.Core.List.{List}

@@ -23,7 +23,8 @@ pub struct Part {
     pub left: usize,
 }
 
-// The same of a leaf.
+// Tests the leaf in slot `s`, which has `least` rows or more, where the walk may open `left` nodes. Its keys must all be above `key`, the last one
+// met, if one was met.
 pub fn check_leaf(
     pool: &[u8],
     st: Settings,

@@ -1,4 +1,5 @@
-// The bridge between a pool's nodes and the trees of the model: what a row means, the kind of a node, and the opening of a pool.
+// The bridge between a pool's nodes and the trees of the model, which specs/ describes: the kind of a node, the limits of the settings, the length of a
+// pool, and its opening.
 ghost use mathlib.Core.Path.{_≡_};
 ghost use Prim.Native.Nat.{_≤_};
 ghost use Rattle.model.specs.Answer.{Tells};
