@@ -1,8 +1,10 @@
 //! The library as the oracle's programs see it, what stands in for it, and the parts of the comparison.
 pub mod alarm;
+pub mod cases;
 pub mod damage;
 pub mod frames;
 pub mod library;
+pub mod lines;
 pub mod parts;
 pub mod random;
 pub mod reach;
@@ -16,5 +18,6 @@ pub mod trees;
 pub mod typed;
 pub mod variants;
 pub mod walk;
+pub mod wanted;
 
 pub use library::{library, Library};

@@ -12,7 +12,11 @@
 // | 8 scan | start: bounded, included, key; end: the same; down, least, bytes of room | written, more, opened, check of the output |
 // | 9 frame | i, bytes of room | length, check of the line |
 // | 10 read frame | bytes of the line | kind, count, check of its entries |
-// | 11 put | word, value: the pool is damaged | check of the pool |
+// | 11 put | word, value: the pool is damaged, or written by hand | check of the pool |
+// | 12 case | n: what follows is numbered case n | none, not even 0: it is no call |
+// | 13 reading | n: what follows is reading n | the same |
+//
+// What is read from a frame must be the same line when it is written again.
 //
 // A list among the arguments is its length and then its numbers. Before the answers stands 0, or else the number of a refusal and nothing
 // but, where the pool is lent for change, its check.

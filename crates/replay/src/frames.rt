@@ -1,4 +1,4 @@
-// Kind 10: a frame is read.
+// Kind 10: a frame is read, and what was read is written again.
 use crate::told::Told;
 use crate::told::amiss;
 use crate::told::check_word;
@@ -7,7 +7,9 @@ use frame_text::Contents;
 use frame_text::FrameEntry;
 use frame_text::Kind;
 use frame_text::ReadAnswer;
+use frame_text::WriteAnswer;
 use trial::at;
+use trial::byte_at;
 
 // The line's bytes are numbers below 256.
 pub fn read(numbers: &[u64]) -> Told {
@@ -29,12 +31,35 @@ fn read_first(text: &[u8; 2000], n: usize) -> Told {
         return amiss();
     }
     let all: &[u8] = text;
-    let r = index::read_frame(&all[..n]);
+    let line = &all[..n];
+    let r = index::read_frame(line);
     let answer = r.answer;
     match answer {
-        ReadAnswer::Done => told(r.contents),
+        ReadAnswer::Done => written(line, r.contents),
         ReadAnswer::Refused(n) => refused(n),
     }
+}
+
+// The contents, where they are this line when they are written.
+fn written(line: &[u8], c: Contents) -> Told {
+    let mut again = [0u8; 2000];
+    match index::write_frame(c, &mut again) {
+        WriteAnswer::Done(n) => if n == line.len() && starts(&again, line) {
+            told(c)
+        } else {
+            amiss()
+        },
+        WriteAnswer::Refused(_) => amiss(),
+    }
+}
+
+fn starts(text: &[u8], line: &[u8]) -> bool {
+    for j in 0..line.len() {
+        if byte_at(text, j) != byte_at(line, j) {
+            return false;
+        }
+    }
+    true
 }
 
 fn told(c: Contents) -> Told {

@@ -1,4 +1,5 @@
-// Replays a list of calls with the answers of the Rust, and counts how many the index answers otherwise.
+// Replays a list of calls with the answers of the Rust, counts how many the index answers otherwise, and says which of the numbered cases of
+// document 01, and of the readings of what it leaves open, hold.
 //
 // The list is this crate's stdin, made from the third variant of the Rust with the plain rules by
 //
@@ -8,7 +9,9 @@
 // frame are of the plain rules alone.
 //
 // A line is one call, in decimal numbers: its kind, how many arguments, the arguments, how many answers, the answers. All calls are done
-// on one pool, which each opening makes anew. A line that cannot be read counts as answered otherwise.
+// on one pool, which each opening makes anew. A line that cannot be read counts as answered otherwise. The cases and the readings stand
+// behind the sampled calls; what each of them wants is written out in oracle/src/cases.rs.
+use cases::Cases;
 use libc::STDIN_FILENO;
 use line::Line;
 use line::Numbers;
@@ -32,9 +35,10 @@ mod calls; // a call by its kind and arguments, done on the pool
 mod batches; // kinds 3 to 6
 mod looks; // kinds 7 to 9
 mod frames; // kind 10
+mod cases; // kinds 12 and 13: the case or reading at hand, and whether it holds
 mod told; // answers as the list has them
 
-// The kinds are numbered from 1 on.
+// The kinds of calls are numbered from 1 on.
 const KINDS: u64 = 11;
 
 // The longest pool of the list has 62,120 bytes.
@@ -42,10 +46,13 @@ type Pool = [u8; 65536];
 
 type Tally = [u64; 36];
 
-// What is kept between two bytes of the list: how long the pool is, and what is known of the line.
+// What is kept between two bytes of the list: how long the pool is, how many lines have ended, what is known of the line, and what of the
+// cases.
 struct State {
     lent: usize,
+    lines: u64,
     line: Line,
+    cases: Cases,
 }
 
 fn main() {
@@ -54,7 +61,9 @@ fn main() {
     let mut tally = [0u64; 36];
     let mut s = State {
         lent: 0,
+        lines: 0,
         line: start(),
+        cases: cases::none(),
     };
     let mut turns = u64::MAX;
     while turns > 0 {
@@ -67,9 +76,11 @@ fn main() {
     }
     // the last line may lack its line feed
     if !is_empty(s.line) {
-        finish(&mut pool, &numbers, &mut tally, s);
+        s = finish(&mut pool, &numbers, &mut tally, s);
     }
+    let c = cases::end(s.cases);
     report(&tally);
+    cases::report(c);
 }
 
 // Whether there may be more to read, and what is kept until then.
@@ -115,40 +126,49 @@ fn feed_byte(pool: &mut Pool, numbers: &mut Numbers, tally: &mut Tally, s: State
     if b == b'\n' {
         return finish(pool, numbers, tally, s);
     }
-    let line = s.line;
-    State {
-        lent: s.lent,
-        line: take(numbers, line, b),
-    }
+    let mut r = s;
+    r.line = take(numbers, s.line, b);
+    r
 }
 
-// A line ends: its call is done, and counted.
+// A line ends: it begins a case or a reading, or its call is done and counted.
 fn finish(pool: &mut Pool, numbers: &Numbers, tally: &mut Tally, s: State) -> State {
-    let line = s.line;
-    let call = line::whole(numbers, line);
+    let call = line::whole(numbers, s.line);
+    let mut r = s;
+    r.line = start();
+    r.lines = std::num::wrapping_add_u64(s.lines, 1);
+    if cases::is_head(call) {
+        r.cases = cases::begin(s.cases, call);
+        return r;
+    }
+    r.lent = calls::lent(at(call, 0), list(call, 1), s.lent);
+    let ok = finish_call(pool, tally, r.lent, call);
+    if !ok {
+        tell(b"line ", r.lines);
+        say(b" answered otherwise\n");
+    }
+    r.cases = cases::count(s.cases, ok);
+    r
+}
+
+// Whether the call is answered as its line has it.
+fn finish_call(pool: &mut Pool, tally: &mut Tally, lent: usize, call: &[u64]) -> bool {
     let kind = at(call, 0);
     let args = list(call, 1);
     let answers = list(call, plus(2, args.len()));
-    let lent = calls::lent(kind, args, s.lent);
     let t = calls::replay(pool, lent, kind, args);
-    count(tally, kind, t, same(t, answers));
-    State {
-        lent,
-        line: start(),
-    }
+    let ok = same(t, answers);
+    count(tally, kind, t, ok);
+    ok
 }
 
 // THE TALLY has three numbers for each kind: its calls, how many of them were refused, and how many were answered otherwise. The first
-// three are those of all lines.
+// three are those of all calls.
 
 fn count(tally: &mut Tally, kind: u64, t: Told, same: bool) {
     count_in(tally, 0, t, same);
     if kind > 0 && kind <= KINDS {
         count_in(tally, kind as usize, t, same);
-    }
-    if !same {
-        tell(b"line ", at(tally, 0));
-        say(b" answered otherwise\n");
     }
 }
 

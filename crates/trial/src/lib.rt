@@ -1,4 +1,4 @@
-// What the programs that try the index have in common: reading and writing at any index, random numbers, lines of output.
+// What the programs that try the index have in common: reading and writing at any index, lines of output.
 //
 // Each of these takes any index: past the end a read answers 0 and a write does nothing. So a program that tries the index owes no proof of
 // where it reads, and what it read amiss it would find as a difference.
@@ -6,7 +6,7 @@ ghost use mathlib.Core.Path.{_≡_};
 ghost use Prim.Native.Nat.{_+_, _%_, _^_};
 ghost use lib.ListN.{getD, set};
 ghost use Rattle.words.specs.Words.{words, Same};
-ghost use Rattle.trial.specs.Numbers.{product, following};
+ghost use Rattle.trial.specs.Numbers.{product};
 use libc::STDOUT_FILENO;
 
 // The 64-bit word `i` of a pool.
@@ -44,12 +44,6 @@ pub fn put(s: &mut [u64], i: usize, v: u64)
     }
 }
 
-pub fn size_at(s: &[u32], i: usize) -> u32
-    ensures { λ r. ⌜ r ≡ getD (now (s .entry)) i 0 ⌝ }
-{
-    if i < s.len() { s[i] } else { 0 }
-}
-
 pub fn put_size(s: &mut [u32], i: usize, v: u32)
     ensures { λ _. ⌜ now (s .exit) ≡ set (now (s .entry)) i v ⌝ }
 {
@@ -71,13 +65,6 @@ pub fn plus(a: usize, b: usize) -> usize
     std::num::wrapping_add_usize(a, b)
 }
 
-// The difference, where it is not negative; else the number to which `b` adds up to `a` by wrapping.
-pub fn minus(a: usize, b: usize) -> usize
-    ensures { λ r. ⌜ (r + b) % 2 ^ 64 ≡ a ⌝ }
-{
-    std::num::wrapping_sub_usize(a, b)
-}
-
 // The product of numbers below 65,536; of greater ones it is 0.
 pub fn times(a: usize, b: usize) -> usize
     ensures { λ r. ⌜ r ≡ product a b ⌝ }
@@ -89,15 +76,6 @@ pub fn times(a: usize, b: usize) -> usize
         return 0;
     }
     a * b
-}
-
-// The next of a row of pseudo-random numbers (xorshift).
-pub fn next(x: u64) -> u64
-    ensures { λ r. ⌜ r ≡ following x ⌝ }
-{
-    let a = x ^ (x << 13);
-    let b = a ^ (a >> 7);
-    b ^ (b << 17)
 }
 
 // Writes a text. (What a program writes is in no contract: `io::write_all` promises nothing of it.)

@@ -1,0 +1,184 @@
+//! Calls with their answers, a line of numbers each, as crates/replay replays them; the form stands at the head of bin/sample.rs. They are
+//! made on one pool, which each opening makes anew, and no line is made of a call on which the third variant disagrees.
+use crate::frames;
+use crate::library::{bound, Library, RawFrame};
+use crate::script::Step;
+use crate::session::Session;
+use crate::tally::Tally;
+use plain::pool::{image, length, put, word};
+use plain::tree::Index;
+use plain::{Action, Call, Expectation, Operation, Request, Settings};
+
+pub struct Lines<'l> {
+    lib: &'l dyn Library,
+    session: Option<Session<'l>>,
+    made: Vec<String>,
+}
+
+/// The answers of a line, and the bytes that the call wrote into its output.
+pub struct Told {
+    pub answers: Vec<u64>,
+    pub output: Vec<u8>,
+}
+
+impl<'l> Lines<'l> {
+    /// No line yet. The answers will be those of this library.
+    pub fn new(lib: &'l dyn Library) -> Lines<'l> {
+        Lines { lib, session: None, made: vec![] }
+    }
+    pub fn made(&self) -> &[String] {
+        &self.made
+    }
+    fn session(&self) -> &Session<'l> {
+        self.session.as_ref().expect("an opened pool")
+    }
+    pub fn pool(&self) -> &[u8] {
+        self.session().pool()
+    }
+    /// What the pool holds; none while it is not sound.
+    pub fn index(&self) -> Option<&Index> {
+        self.session().index()
+    }
+
+    fn make(&mut self, kind: u64, arguments: &[u64], answers: &[u64]) {
+        let counted = |v: &[u64]| [&[v.len() as u64], v].concat();
+        let numbers = [vec![kind], counted(arguments), counted(answers)].concat();
+        self.made.push(numbers.iter().map(u64::to_string).collect::<Vec<_>>().join(" "));
+    }
+
+    /// What follows is this numbered case.
+    pub fn case(&mut self, n: u64) {
+        self.make(12, &[n], &[]);
+    }
+    /// What follows is this reading.
+    pub fn reading(&mut self, n: u64) {
+        self.make(13, &[n], &[]);
+    }
+
+    /// An opening that is refused, over so many bytes.
+    pub fn open_refused(&mut self, nodes: u64, order: u64, minimum: u64, len: u64) {
+        let mut pool = vec![0x5a; len as usize];
+        let number = self.lib.open(&mut pool, nodes, order, minimum);
+        assert_ne!(number, 0, "an opening that is done");
+        self.make(1, &[nodes, order, minimum, len], &[number.into(), check(&pool)]);
+    }
+    pub fn open(&mut self, st: Settings) {
+        let session = Session::new(self.lib, st, None).expect("agreed");
+        let arguments = [st.nodes as u64, st.order as u64, st.minimum as u64, length(&st) as u64];
+        self.make(1, &arguments, &[0, check(session.pool())]);
+        self.session = Some(session);
+    }
+    /// The words by which the open pool, a new one, differs from the image of this index are put into it.
+    pub fn fill(&mut self, index: &Index) {
+        let st = self.session().settings;
+        let (mut pool, image) = (self.pool().to_vec(), image(&st, index));
+        for at in 0..image.len() / 8 {
+            let value = word(&image, at);
+            if word(&pool, at) != value {
+                put(&mut pool, at, value);
+                self.make(11, &[at as u64, value], &[0, check(&pool)]);
+            }
+        }
+        self.session = Some(self.session().again(st, index));
+    }
+
+    pub fn play(&mut self, step: &Step) -> Told {
+        let before = self.pool().to_vec();
+        self.session.as_mut().expect("an opened pool").step(step).expect("agreed");
+        match step {
+            Step::Batch(c) => self.batch(c, &before),
+            Step::Totals => self.totals(),
+            Step::Get { keys, room } => self.get(keys, *room),
+            Step::Scan { request, room } => self.scan(request, *room),
+            Step::Frame { i, room } => self.frame(*i, *room),
+            Step::Put { word, value } => self.told(11, &[*word as u64, *value], vec![0, check(self.pool())], vec![]),
+            Step::Resize { .. } => unreachable!("a pool keeps its length up to the next opening"),
+        }
+    }
+
+    fn told(&mut self, kind: u64, arguments: &[u64], answers: Vec<u64>, output: Vec<u8>) -> Told {
+        self.make(kind, arguments, &answers);
+        Told { answers, output }
+    }
+    /// A call that lends no pool for change: behind its number, where it is done, what it told and the check of what it wrote.
+    fn looked(&mut self, kind: u64, arguments: &[u64], number: u32, told: &[u64], output: Option<Vec<u8>>) -> Told {
+        if number != 0 {
+            return self.told(kind, arguments, vec![number.into()], vec![]);
+        }
+        let mut answers = [&[0], told].concat();
+        answers.extend(output.iter().map(|o| check(o)));
+        self.told(kind, arguments, answers, output.unwrap_or_default())
+    }
+
+    fn batch(&mut self, c: &Call, before: &[u8]) -> Told {
+        let (mut after, mut counts) = (before.to_vec(), [0; 4]);
+        let number = self.lib.batch(&mut after, c, &mut counts);
+        let mut answers = vec![number.into()];
+        answers.extend((number == 0).then_some(counts).into_iter().flatten());
+        answers.push(check(&after));
+        let (kind, arguments) = batch_arguments(c);
+        self.told(kind, &arguments, answers, vec![])
+    }
+    fn totals(&mut self) -> Told {
+        let mut told = [0; 3];
+        let number = self.lib.totals(self.pool(), &mut told);
+        self.looked(2, &[], number, &told, None)
+    }
+    fn get(&mut self, keys: &[u64], room: usize) -> Told {
+        let (mut out, mut told) = (vec![0; room], [0; 2]);
+        let number = self.lib.get(self.pool(), keys, &mut out, &mut told);
+        out.truncate(24 * told[0] as usize);
+        self.looked(7, &[vec![room as u64], listed(keys)].concat(), number, &told, Some(out))
+    }
+    fn scan(&mut self, q: &Request, room: usize) -> Told {
+        let (mut out, mut told) = (vec![0; room], [0; 3]);
+        let number = self.lib.scan(self.pool(), q, &mut out, &mut told);
+        out.truncate(24 * told[0] as usize);
+        let ((sb, si, s), (eb, ei, e)) = (bound(q.start), bound(q.end));
+        let arguments = [sb.into(), si.into(), s, eb.into(), ei.into(), e, q.down.into(), q.least.into(), room as u64];
+        self.looked(8, &arguments, number, &told, Some(out))
+    }
+    fn frame(&mut self, i: u64, room: usize) -> Told {
+        let (mut line, mut len) = (vec![0; room], 0);
+        let number = self.lib.frame(self.pool(), i, &mut line, &mut len);
+        line.truncate(len as usize);
+        self.looked(9, &[i, room as u64], number, &[len], Some(line))
+    }
+    /// A frame is read; no pool is lent.
+    pub fn read(&mut self, line: &[u8]) -> Told {
+        frames::read(self.lib, line, &mut Tally::default()).expect("agreed");
+        let mut f = RawFrame::zero();
+        let number = self.lib.read_frame(line, &mut f);
+        let narrow = [f.narrow, f.live, f.dead].concat().into_iter().map(u64::from);
+        let words = f.keys.into_iter().chain(f.wide).chain(narrow).flat_map(u64::to_le_bytes).collect();
+        self.looked(10, &listed(line), number, &f.head, Some(words))
+    }
+}
+
+fn batch_arguments(c: &Call) -> (u64, Vec<u64>) {
+    let keys = listed(&c.keys);
+    match c.operation {
+        Operation::Set(r) => (3, [vec![r.place, r.size.into()], keys].concat()),
+        Operation::SetEach => (4, [keys, listed(&c.places), listed(&c.sizes)].concat()),
+        Operation::Remove => (5, keys),
+        Operation::Compare(e, a) => {
+            let e = match e {
+                Expectation::Absent => [0, 0, 0],
+                Expectation::Holds(r) => [1, r.place, r.size.into()],
+            };
+            let a = match a {
+                Action::Remove => [0, 0, 0],
+                Action::Set(r) => [1, r.place, r.size.into()],
+            };
+            (6, [e.to_vec(), a.to_vec(), keys].concat())
+        }
+    }
+}
+
+fn check(bytes: &[u8]) -> u64 {
+    bytes.iter().fold(0, |h, &b| (31 * h + u64::from(b)) % 1_000_000_007)
+}
+
+fn listed<T: Copy + Into<u64>>(v: &[T]) -> Vec<u64> {
+    std::iter::once(v.len() as u64).chain(v.iter().map(|&x| x.into())).collect()
+}

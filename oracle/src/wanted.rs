@@ -1,0 +1,165 @@
+//! What a numbered case or a reading does to its pool, and what it wants to be answered: each call is put among the lines and held to that.
+//!
+//! Order 4, minimum 2. A key k has place 256 + k and size 16, as in document 01's input; P is the pool after that input.
+use crate::lines::{Lines, Told};
+use crate::script::Step;
+use crate::stand_in::entry_bytes;
+use plain::frame::{write_frame, Frame};
+use plain::pool::{slot_words, word, HEADER};
+use plain::read_frame::read_line;
+use plain::tree::{Index, Node};
+use plain::{Bound, Call, Entry, Request, Settings};
+use std::ops::RangeInclusive;
+
+pub const DESK: Settings = Settings { nodes: 16, order: 4, minimum: 2 };
+
+pub fn entry(k: u64) -> Entry {
+    Entry { key: k, place: 256 + k, size: 16 }
+}
+fn entries(keys: &[u64]) -> Vec<Entry> {
+    keys.iter().map(|&k| entry(k)).collect()
+}
+
+/// The keys are set in one batch.
+pub fn set(keys: &[u64]) -> Call {
+    let places: Vec<u64> = keys.iter().map(|&k| entry(k).place).collect();
+    Call::set_each(keys, &places, &vec![16; keys.len()])
+}
+
+pub fn up(start: Bound, end: Bound) -> Request {
+    Request { start, end, down: false, least: 0 }
+}
+pub fn down(start: Bound, end: Bound) -> Request {
+    Request { down: true, ..up(start, end) }
+}
+
+/// Leaves in the slots from `from` on.
+fn leaves_from(from: usize, leaves: &[&[u64]]) -> Vec<Node> {
+    leaves.iter().enumerate().map(|(i, keys)| Node::leaf(from + i, entries(keys))).collect()
+}
+/// One root over leaves, among 16 nodes.
+pub fn grove(leaves: &[&[u64]]) -> Index {
+    Index { root: Node::interior(0, leaves_from(1, leaves)), unused: (1 + leaves.len()..16).collect() }
+}
+/// A root over two interiors in the slots 1 and 2, each over leaves, among so many nodes.
+pub fn two_groves(nodes: usize, a: &[&[u64]], b: &[&[u64]]) -> Index {
+    let interiors = vec![Node::interior(1, leaves_from(3, a)), Node::interior(2, leaves_from(3 + a.len(), b))];
+    Index { root: Node::interior(0, interiors), unused: (3 + a.len() + b.len()..nodes).collect() }
+}
+/// A leaf of one key below six interiors of one child: in the slots from `from` on, the leaf in the last of seven.
+pub fn way_down(from: usize, key: u64) -> Node {
+    let leaf = Node::leaf(from + 6, entries(&[key]));
+    (from..from + 6).rev().fold(leaf, |below, slot| Node::interior(slot, vec![below]))
+}
+
+#[track_caller]
+fn begins_with(t: &Told, wanted: &[u64]) {
+    assert_eq!(&t.answers[..wanted.len().min(t.answers.len())], wanted);
+}
+
+impl Lines<'_> {
+    pub fn new_pool(&mut self, nodes: usize) {
+        self.open(Settings { nodes, ..DESK });
+    }
+    #[track_caller]
+    pub fn p(&mut self) {
+        self.new_pool(16);
+        self.done(&set(&[1, 2, 3, 4]), [4, 0, 0, 0]);
+        self.done(&set(&[5]), [1, 0, 0, 0]);
+    }
+    /// A pool written by hand.
+    pub fn by_hand(&mut self, st: Settings, index: &Index) {
+        self.open(st);
+        self.fill(index);
+        assert_eq!(plain::sound::index_of(self.pool()).as_ref(), Some(&(st, index.clone())));
+    }
+
+    /// A batch is done and counts so many keys that added, replaced, removed and did nothing.
+    #[track_caller]
+    pub fn done(&mut self, c: &Call, [added, replaced, removed, nothing]: [u64; 4]) {
+        begins_with(&self.play(&Step::Batch(c.clone())), &[0, added, replaced, removed, nothing]);
+    }
+    #[track_caller]
+    pub fn refused(&mut self, c: &Call, number: u64) {
+        let before = self.pool().to_vec();
+        begins_with(&self.play(&Step::Batch(c.clone())), &[number]);
+        assert_eq!(self.pool(), before);
+    }
+    /// Keys are added one by one.
+    #[track_caller]
+    pub fn one_by_one(&mut self, keys: RangeInclusive<u64>) {
+        for k in keys {
+            self.done(&set(&[k]), [1, 0, 0, 0]);
+        }
+    }
+
+    #[track_caller]
+    pub fn totals_are(&mut self, live: u64, dead: u64, size: u64) {
+        assert_eq!(self.play(&Step::Totals).answers, [0, live, dead, size]);
+    }
+    /// A get of these keys lists these entries, and no more are due.
+    #[track_caller]
+    pub fn gets(&mut self, keys: &[u64], found: &[Entry]) {
+        let t = self.play(&Step::Get { keys: keys.to_vec(), room: 480 });
+        begins_with(&t, &[0, found.len() as u64, 0]);
+        assert_eq!(t.output, entry_bytes(found));
+    }
+    /// A scan with room for so many entries lists these keys, opens so many nodes, and says whether more are due.
+    #[track_caller]
+    pub fn lists(&mut self, request: Request, room: usize, keys: &[u64], opened: u64, more: bool) {
+        let t = self.play(&Step::Scan { request, room: 24 * room });
+        begins_with(&t, &[0, keys.len() as u64, more.into(), opened]);
+        assert_eq!(t.output, entry_bytes(&entries(keys)));
+    }
+
+    /// All frames of the pool, as lines; behind the last there is none.
+    #[track_caller]
+    fn all_frames(&mut self) -> Vec<String> {
+        let mut lines = vec![];
+        loop {
+            let t = self.play(&Step::Frame { i: lines.len() as u64, room: 512 });
+            if t.answers == [14] {
+                return lines;
+            }
+            begins_with(&t, &[0, t.output.len() as u64]);
+            lines.push(String::from_utf8(t.output).expect("digits"));
+        }
+    }
+    #[track_caller]
+    pub fn frames_are(&mut self, lines: &[&str]) {
+        assert_eq!(self.all_frames(), lines);
+    }
+    /// By the frames: the number of children of each interior, in the order of the walk, and the leaves from the least key to the greatest.
+    #[track_caller]
+    pub fn tree_is(&mut self, interiors: &[usize], leaves: &[&[u64]]) {
+        let (mut found, mut rest) = (vec![], leaves.iter());
+        for line in self.all_frames() {
+            match read_line(line.as_bytes()).expect("a frame") {
+                Frame::Interior(branches) => found.push(branches.len()),
+                Frame::Leaf(es) => assert_eq!(es, entries(rest.next().expect("no further leaf"))),
+            }
+        }
+        assert_eq!((found.as_slice(), rest.len()), (interiors, 0));
+    }
+
+    /// The kinds of the first slots, 1 of a leaf and 2 of an interior; all others are unused.
+    #[track_caller]
+    pub fn slots_are(&mut self, kinds: &[u64]) {
+        for slot in 0..DESK.nodes {
+            let kind = word(self.pool(), HEADER + slot * slot_words(DESK.order));
+            assert_eq!((slot, kind), (slot, kinds.get(slot).copied().unwrap_or(0)));
+        }
+    }
+
+    /// A line is read, and what was read is the same line when it is written.
+    #[track_caller]
+    pub fn reads_back(&mut self, line: &str) {
+        begins_with(&self.read(line.as_bytes()), &[0]);
+        let frame = read_line(line.as_bytes()).expect("a frame");
+        assert_eq!(write_frame(line.len(), &frame).as_deref(), Ok(line.as_bytes()));
+    }
+    #[track_caller]
+    pub fn does_not_read(&mut self, line: &str, number: u64) {
+        assert_eq!(self.read(line.as_bytes()).answers, [number]);
+    }
+}
