@@ -1,5 +1,5 @@
 //! The numbered cases of document 01, in its order, and the readings of what it leaves open, whose reasons are in docs/DECISIONS.md: as lines
-//! that crates/replay replays. What is wanted is written out here, and every answer is held to it as its line is made.
+//! that crates/trial_replay replays. What is wanted is written out here, and every answer is held to it as its line is made.
 use crate::lines::Lines;
 use crate::wanted::{down, entry, grove, set, two_groves, up, way_down, DESK};
 use plain::tree::{Index, Node};

@@ -1,4 +1,4 @@
-//! Calls with their answers, a line of numbers each, as crates/replay replays them; the form stands at the head of bin/sample.rs. They are
+//! Calls with their answers, a line of numbers each, as crates/trial_replay replays them; the form stands at the head of bin/sample.rs. They are
 //! made on one pool, which each opening makes anew, and no line is made of a call on which the third variant disagrees.
 use crate::frames;
 use crate::library::{bound, Library, RawFrame};

@@ -17,8 +17,8 @@ fn the_cases_and_the_readings_hold() {
 #[test]
 fn the_stored_list_is_the_one_that_sample_writes() {
     let made = std::process::Command::new(env!("CARGO_BIN_EXE_sample")).args(["3000", "1"]).output().expect("the program runs");
-    let stored = std::fs::read(concat!(env!("CARGO_MANIFEST_DIR"), "/../crates/replay/stdin")).expect("the list is there");
-    assert!(made.status.success() && made.stdout == stored, "write it anew: sample 3000 1 >crates/replay/stdin");
+    let stored = std::fs::read(concat!(env!("CARGO_MANIFEST_DIR"), "/../crates/trial_replay/stdin")).expect("the list is there");
+    assert!(made.status.success() && made.stdout == stored, "write it anew: sample 3000 1 >crates/trial_replay/stdin");
 }
 
 /// docs/POOL.md: P in words, its lengths, and that it is sound.
