@@ -48,6 +48,13 @@ unfolding upTo
 up-to-length stop [] = omega arith
 up-to-length stop (b ∷ bs) = by-test (λ f. length f ≤ length (b ∷ bs)) (eqb b stop) {x = []} {y = b ∷ upTo stop bs} (λ e. omega arith) (λ e. omega (arith, up-to-length stop bs))
 
+-- the place where it stands is not before the place from which it is looked for, nor behind the text
+pub end-from : (stop : ℕ) (t : List ℕ) (from n : ℕ) → n ≡ endOf stop t from → from ≤ n
+end-from stop t from n e = omega arith
+
+pub end-within : (stop : ℕ) (t : List ℕ) (from n : ℕ) → from ≤ length t → n ≡ endOf stop t from → n ≤ length t
+end-within stop t from n h e = omega (arith, up-to-length stop (drop from t), length-drop from t)
+
 -- so the first line is the part of the text up to its end
 pub line-part : (t : List ℕ) (n : ℕ) → n ≡ endOf 10 t 0 → take n t ≡ firstLine t
 line-part t n e = let k : n ≡ length (upTo 10 t) = omega arith in rw k (up-to-take 10 t)

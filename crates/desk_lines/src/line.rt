@@ -1,7 +1,5 @@
 // The next line, handed back as the part of the text it occupies.
 ghost use mathlib.Core.Path.{_≡_};
-ghost use Prim.Native.Nat.{_≤_};
-ghost use lib.ListN.{length};
 ghost use Rattle.desk_lines.specs.Lines.{firstLine, endOf};
 
 // The first line of a text, without its line feed. Where the text ends first, what is there of it.
@@ -14,8 +12,7 @@ pub fn next_line(text: &[u8]) -> &[u8]
 
 // Where the byte `stop` next stands, or the text's end.
 pub fn find(text: &[u8], from: usize, stop: u8) -> usize
-    requires { ⌜ from ≤ length (now text) ⌝ }
-    ensures { λ r. ⌜ (r ≡ endOf stop (now (text .entry)) from) × (from ≤ r) × (r ≤ length (now (text .entry))) ⌝ }
+    ensures { λ r. ⌜ r ≡ endOf stop (now (text .entry)) from ⌝ }
 {
     let mut i = from;
     while i < text.len() {

@@ -2,6 +2,7 @@ use borrow.Author.Needs.{needs}
 use native.Mathlib.Omega.{arith}
 use Prim.Native.Nat.{ℕ, _-_, _≤_}
 use mathlib.Core.Path.{_≡_, refl, sym, ap, _∙_, subst}
+use Rattle.desk_lines.proofs.Finds.{end-from, end-within}
 use Rattle.desk_orders.proofs.Spelt.{Spelling, spelling, spelt-more, spelt-bad, spelt-done, spelt-small, number-empty, number-long}
 use Rattle.desk_orders.proofs.digits.read_number.Statement.{statement}
 use Rattle.desk_orders.proofs.digits.read_number.Tie as tie
@@ -13,15 +14,16 @@ abbrev μ-loop : tie.MeasureT-loop
 μ-loop line from most end i₀ value₀ i value = end - i
 
 returns : tie.Need-returns Inv-loop μ-loop
-returns c = number-empty _ _ _ _ (c .before .find .ensures .0) (c .if1 .taken)
+returns c = number-empty _ _ _ _ (c .before .find .ensures) (c .if1 .taken)
 
 returns-2 : tie.Need-returns-2 Inv-loop μ-loop
-returns-2 c = number-long _ _ _ _ (c .before .before .find .ensures .0) (c .if2 .taken)
+returns-2 c = number-long _ _ _ _ (c .before .before .find .ensures) (c .if2 .taken)
 
 loop-holds : tie.Need-loop-holds Inv-loop μ-loop
 loop-holds c =
     let f = c .before .before .find .ensures in
-    spelling _ _ _ _ (f .0) (f .1) (λ e. c .before .if1 .left (sym e)) (f .2) (c .if2 .left)
+    let within = c .before .before .before .before .pre .0 in
+    spelling _ _ _ _ f (end-from 32 _ _ _ f) (λ e. c .before .if1 .left (sym e)) (end-within 32 _ _ _ within f) (c .if2 .left)
 
 returns-3 : tie.Need-returns-3 Inv-loop μ-loop
 returns-3 c =
