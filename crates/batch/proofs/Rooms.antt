@@ -11,7 +11,8 @@ use Rattle.model.specs.declared.Settings.{Settings}
 use Rattle.model.specs.Lists.{All, times}
 use Rattle.model.specs.Tree.{Tree, Index, slotsOf, entriesOf}
 use Rattle.model.specs.Plain.{Task}
-use Rattle.model.specs.Change.{Remove, Split, isChange, Outcome, change, noCeiling, settleRoot, Batched, changeRoot}
+use Rattle.model.specs.declared.ChangeResult.the-variants.{Remove, Split}
+use Rattle.model.specs.Change.{isChange, Outcome, change, noCeiling, settleRoot, Batched, changeRoot}
 use Rattle.model.specs.Sound.{InLimits, Fits}
 use Rattle.model.specs.Contracts.{flat, Rising, Grants, Given, Enough}
 use Rattle.model.proofs.Lists.{all-left}

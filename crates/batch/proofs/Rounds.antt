@@ -16,7 +16,8 @@ use Rattle.model.specs.declared.Operation.the-variants as Op
 use Rattle.model.specs.declared.Settings.{Settings}
 use Rattle.model.specs.Tree.{Tree, Index, entriesOf}
 use Rattle.model.specs.Plain.{Task, noCounts}
-use Rattle.model.specs.Change.{Result, Outcome, Batched, change, noCeiling, settleRoot, changeRoot}
+use Rattle.model.specs.declared.ChangeResult.{ChangeResult}
+use Rattle.model.specs.Change.{Outcome, Batched, change, noCeiling, settleRoot, changeRoot}
 use Rattle.model.specs.Refuse.{isEach}
 use Rattle.model.specs.Refuse as M
 use Rattle.model.specs.Sound.{InLimits}
@@ -26,7 +27,6 @@ use Rattle.model.proofs.Demands.{sound-fine}
 use Rattle.batch_leaf.specs.Leaf.{Batch, Lent, tasksOf}
 use Rattle.tree.specs.Bridge.{treeAt, unusedOf, HoldsIndex}
 use Rattle.tree.proofs.Few.{entries-most}
-use Rattle.batch_share.specs.Settle.{resultIs}
 use Rattle.batch_node.specs.declared.Reply.{Reply}
 use Rattle.batch_node.specs.Calls.{runOf, Asked, Call, Answers, Came}
 use Rattle.batch_root.specs.declared.Root.{Root}
@@ -178,9 +178,9 @@ module _ {st : Settings} {W₀ : List ℕ} {h₀ : ℕ} {op : Operation} {ps zs 
       abbrev ms : List S.Node
       ms = nodes st W₁
 
-      answers : Answers h ns ms (treeAt ns h 0) o (drop (r .next) T) (resultIs (r .result)) (r .counts)
+      answers : Answers h ns ms (treeAt ns h 0) o (drop (r .next) T) ((r .result)) (r .counts)
       answers =
-          subst (λ (us : List Task). Answers h ns ms (treeAt ns h 0) (change st h noCeiling (treeAt ns h 0) us (runOf ns c)) (drop (r .next) T) (resultIs (r .result)) (r .counts))
+          subst (λ (us : List Task). Answers h ns ms (treeAt ns h 0) (change st h noCeiling (treeAt ns h 0) us (runOf ns c)) (drop (r .next) T) ((r .result)) (r .counts))
           (n .left) (came .answers)
 
       -- the pool holds the root as the call left it
@@ -219,9 +219,9 @@ module _ {st : Settings} {W₀ : List ℕ} {h₀ : ℕ} {op : Operation} {ps zs 
 
       -- AND ITS RESULT SETTLED
       module _ {W₂ : List ℕ} {q : Root} (done : SettledRoot st W₁ W₂ h (r .result) q) where
-        is : settleRoot (resultIs (r .result)) h (treeAt ms h 0) (unusedOf ms) ≡ y
+        is : settleRoot ((r .result)) h (treeAt ms h 0) (unusedOf ms) ≡ y
         is =
-            ap (λ (v : Result). settleRoot v h (treeAt ms h 0) (unusedOf ms)) (answers .result)
+            ap (λ (v : ChangeResult). settleRoot v h (treeAt ms h 0) (unusedOf ms)) (answers .result)
             ∙ ap (λ (z : Tree h). settleRoot (o .result) h z (unusedOf ms)) root-is ∙ ap (settleRoot (o .result) h (o .node)) (answers .unused)
 
         on : Going st y (o .tasks)

@@ -15,9 +15,8 @@ use Rattle.model.specs.Change.{settleRoot}
 use Rattle.model.proofs.Lists.{all-head}
 use Rattle.tree.specs.Bridge.{treeAt, rowFor, nodeFor, unusedOf, HoldsIndex}
 use Rattle.tree.proofs.Cells.{kind-used}
-use Rattle.batch_share.specs.declared.ChangeResult.{ChangeResult}
-use Rattle.batch_share.specs.declared.ChangeResult.the-variants as Be
-use Rattle.batch_share.specs.Settle.{resultIs}
+use Rattle.model.specs.declared.ChangeResult.{ChangeResult}
+use Rattle.model.specs.declared.ChangeResult.the-variants.{Split, Remove}
 use Rattle.tree.proofs.Unused.{used-in}
 use Rattle.tree.proofs.SoundHolds.{slot-read}
 use Rattle.batch_share.proofs.Places.{node-used}
@@ -35,10 +34,10 @@ module _ {st : Settings} {W : List ℕ} {h low : ℕ} {v : ChangeResult} (pre : 
   t = treeAt (nodes st W) h 0
 
   -- OVER-FULL: it is split
-  pub to-halve : v ≡ Be.Split → Splits st W h low
-  to-halve e = record { keeps = pre .keeps; lowest = pre .lowest; two = pre .two (ap resultIs e) }
+  pub to-halve : v ≡ Split → Splits st W h low
+  to-halve e = record { keeps = pre .keeps; lowest = pre .lowest; two = pre .two e }
 
-  pub split-settled : {W′ : List ℕ} {r : ℕ} → v ≡ Be.Split → Halved st W W′ h r → SettledRoot st W W′ h v (record { height = h + 1; low = r })
+  pub split-settled : {W′ : List ℕ} {r : ℕ} → v ≡ Split → Halved st W W′ h r → SettledRoot st W W′ h v (record { height = h + 1; low = r })
   split-settled {W′} {r} e d =
       subst (λ (u : ChangeResult). SettledRoot st W W′ h u (record { height = h + 1; low = r })) (sym e)
       (record { becomes = d .becomes; height = omega arith; lowest = d .lowest })
@@ -65,20 +64,20 @@ module _ {st : Settings} {W : List ℕ} {h low : ℕ} {v : ChangeResult} (pre : 
         blank = blank-set ns 0 bare (pre .keeps .holds .blank) (no-blank bare (kind-used 0));
       }
 
-  pub gone-settled : {W′ : List ℕ} → v ≡ Be.Remove → Now st W W′ (putKind (nodes st W) 0 1) → SettledRoot st W W′ h v (record { height = 0; low = low })
+  pub gone-settled : {W′ : List ℕ} → v ≡ Remove → Now st W W′ (putKind (nodes st W) 0 1) → SettledRoot st W W′ h v (record { height = 0; low = low })
   unfolding putKind
   gone-settled {W′} e w =
       subst (λ (u : ChangeResult). SettledRoot st W W′ h u (record { height = 0; low = low })) (sym e)
       (record {
-        becomes = now-holds st W W′ leaf _ w (leaf-holds (pre .gone (ap resultIs e)));
+        becomes = now-holds st W W′ leaf _ w (leaf-holds (pre .gone e));
         height = refl;
         lowest = low-same st W W′ low (pre .lowest) (ap unusedOf (w .is) ∙ leaf-unused);
       })
 
   -- ANY OTHER: it stays
-  pub stays-settled : {u : ChangeResult} → v ≡ u → settleRoot (resultIs u) h t (unusedOf ns) ≡ indexAt ns h → SettledRoot st W W h v (record { height = h; low = low })
+  pub stays-settled : {u : ChangeResult} → v ≡ u → settleRoot u h t (unusedOf ns) ≡ indexAt ns h → SettledRoot st W W h v (record { height = h; low = low })
   stays-settled e same =
-      let is : indexAt ns h ≡ settleRoot (resultIs v) h t (unusedOf ns) = sym same ∙ ap (λ (r : ChangeResult). settleRoot (resultIs r) h t (unusedOf ns)) (sym e) in
+      let is : indexAt ns h ≡ settleRoot v h t (unusedOf ns) = sym same ∙ ap (λ (r : ChangeResult). settleRoot r h t (unusedOf ns)) (sym e) in
       record {
         becomes = record { held = pre .keeps .held; header = refl; holds = subst (HoldsIndex ns) is (pre .keeps .holds) };
         height = ap (λ (x : Index). x .height) is;

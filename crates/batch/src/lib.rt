@@ -9,7 +9,7 @@ use batch_node::node_change;
 use batch_root::Root;
 use batch_root::collapse;
 use batch_root::split_root;
-use batch_share::ChangeResult;
+use model::ChangeResult;
 use model::Counts;
 use model::Operation;
 use model::Settings;

@@ -1,2 +1,2 @@
--- `Deeds` has the code's words for what stands and what is done under a key, as the model's.
-pub mod Deeds
+-- `Under` says what stands under a key, in the model's words, and how many keys are counted.
+pub mod Under

@@ -1,13 +1,14 @@
-// What an operation does under a key, by what stands there; and what that adds to the counts.
+// What a wish does under a key, by what stands there; and what that adds to the counts.
 ghost use mathlib.Core.Path.{_≡_};
 ghost use mathlib.Core.Bool.{_||_};
 ghost use Rattle.model.specs.Plain.{act, met, effect, same, count, alters};
-ghost use Rattle.batch_effect.specs.Deeds.{optionOf, effectOf, wishOf, refOf, Few};
+ghost use Rattle.batch_effect.specs.Under.{optionOf, refOf, Few};
 use model::Action;
 use model::Counts;
+use model::Effect;
 use model::Expectation;
-use model::Operation;
 use model::Reference;
+use model::Wish;
 
 // What stands under a key: nothing, or a place and a size.
 pub enum Presence {
@@ -15,44 +16,34 @@ pub enum Presence {
     Held(u64, u64),
 }
 
-// What is to be done under a key.
-pub enum Deed {
-    Leave,
-    Add(Reference),
-    Replace(Reference),
-    Remove,
-}
-
-// What `op` does under a key: `lent` is the key's own reference.
-pub fn decide(op: Operation, lent: Reference, p: Presence) -> Deed
-    ensures { λ r. ⌜ effectOf r ≡ effect (wishOf op lent) (optionOf p) ⌝ }
+// What a wish does under a key.
+pub fn decide(wish: Wish, p: Presence) -> Effect
+    ensures { λ r. ⌜ r ≡ effect wish (optionOf p) ⌝ }
 {
-    match op {
-        Operation::Set(r) => deed_of(Action::Set(r), p),
-        Operation::SetEach => deed_of(Action::Set(lent), p),
-        Operation::Remove => deed_of(Action::Remove, p),
-        Operation::Compare(e, a) => {
+    match wish {
+        Wish::Always(a) => effect_of(a, p),
+        Wish::IfMet(e, a) => {
             if meets(e, p) {
-                deed_of(a, p)
+                effect_of(a, p)
             } else {
-                Deed::Leave
+                Effect::Leave
             }
         }
     }
 }
 
 // What an action does under a key.
-fn deed_of(a: Action, p: Presence) -> Deed
-    ensures { λ r. ⌜ effectOf r ≡ act a (optionOf p) ⌝ }
+fn effect_of(a: Action, p: Presence) -> Effect
+    ensures { λ r. ⌜ r ≡ act a (optionOf p) ⌝ }
 {
     match a {
         Action::Set(r) => match p {
-            Presence::Absent => Deed::Add(r),
-            Presence::Held(_, _) => Deed::Replace(r),
+            Presence::Absent => Effect::Add(r),
+            Presence::Held(_, _) => Effect::Replace(r),
         },
         Action::Remove => match p {
-            Presence::Absent => Deed::Leave,
-            Presence::Held(_, _) => Deed::Remove,
+            Presence::Absent => Effect::Leave,
+            Presence::Held(_, _) => Effect::Remove,
         },
     }
 }
@@ -86,29 +77,29 @@ pub fn wide(size: u32) -> u64
     size as u64
 }
 
-// Whether a deed changes the leaf, or an earlier one did. A replacement does, by an equal reference too.
-pub fn altered(was: bool, d: Deed) -> bool
-    ensures { λ r. ⌜ r ≡ (was || alters (effectOf d)) ⌝ }
+// Whether an effect changes the leaf, or an earlier one did. A replacement does, by an equal reference too.
+pub fn altered(was: bool, e: Effect) -> bool
+    ensures { λ r. ⌜ r ≡ (was || alters e) ⌝ }
 {
-    match d {
-        Deed::Leave => was,
-        Deed::Add(_) => true,
-        Deed::Replace(_) => true,
-        Deed::Remove => true,
+    match e {
+        Effect::Leave => was,
+        Effect::Add(_) => true,
+        Effect::Replace(_) => true,
+        Effect::Remove => true,
     }
 }
 
-// The counts with one deed more.
-pub fn counted(c: Counts, d: Deed) -> Counts
+// The counts with one effect more.
+pub fn counted(c: Counts, e: Effect) -> Counts
     requires { ⌜ Few c 4294967296 ⌝ }
-    ensures { λ r. ⌜ r ≡ count (effectOf d) c ⌝ }
+    ensures { λ r. ⌜ r ≡ count e c ⌝ }
 {
     let mut n = c;
-    match d {
-        Deed::Leave => n.nothing += 1,
-        Deed::Add(_) => n.added += 1,
-        Deed::Replace(_) => n.replaced += 1,
-        Deed::Remove => n.removed += 1,
+    match e {
+        Effect::Leave => n.nothing += 1,
+        Effect::Add(_) => n.added += 1,
+        Effect::Replace(_) => n.replaced += 1,
+        Effect::Remove => n.removed += 1,
     }
     n
 }

@@ -24,7 +24,11 @@ use Rattle.model.specs.declared.Entry.{Entry}
 use Rattle.model.specs.declared.Reference.{Reference}
 use Rattle.model.specs.declared.Action.{Action}
 use Rattle.model.specs.declared.Action.the-variants as Do
-use Rattle.model.specs.Plain.{Task, Wish, always, ifMet, Effect, leave, add, replace, remove, step, effect, act, met, held, above, below, from, under, alters, entryFor}
+use Rattle.model.specs.declared.Wish.{Wish}
+use Rattle.model.specs.declared.Wish.the-variants.{Always, IfMet}
+use Rattle.model.specs.declared.Effect.{Effect}
+use Rattle.model.specs.declared.Effect.the-variants.{Leave, Add, Replace, Remove}
+use Rattle.model.specs.Plain.{Task, step, effect, act, met, held, above, below, from, under, alters, entryFor}
 use Rattle.model.specs.Sound.{Sorted}
 use Rattle.model.proofs.Lists.{by-test}
 use Rattle.model.proofs.Plain.{step-idle}
@@ -33,9 +37,7 @@ use Rattle.tree.specs.Bridge.{entryOf, entryRow}
 use Rattle.tree.proofs.SoundHolds.{rows-again}
 use Rattle.tree.proofs.Keys.{rows-ascend, entries-from}
 use Rattle.batch_effect.specs.declared.Presence.{Presence}
-use Rattle.batch_effect.specs.declared.Deed.{Deed}
-use Rattle.batch_effect.specs.declared.Deed.the-variants as D
-use Rattle.batch_effect.specs.Deeds.{refOf, optionOf, effectOf}
+use Rattle.batch_effect.specs.Under.{refOf, optionOf}
 use Rattle.batch_leaf.specs.Leaf.{Leaf}
 use Rattle.batch_leaf.specs.Keys.{presenceAt, placeOf, performed, Able, KeyDone}
 
@@ -108,44 +110,44 @@ place-within l (F.Before i) h = h
 
 -- under a key that is absent nothing is replaced or removed
 abbrev touches : Effect → Bool
-touches leave = false
-touches (add r) = false
-touches (replace r) = true
-touches remove = true
+touches Leave = false
+touches (Add r) = false
+touches (Replace r) = true
+touches Remove = true
 
 act-absent : (a : Action) → touches (act a none) ≡ false
 act-absent (Do.Set r) = refl
 act-absent Do.Remove = refl
 
 absent : (w : Wish) → touches (effect w none) ≡ false
-absent (always a) = act-absent a
-absent (ifMet e a) = by-test (λ (x : Effect). touches x ≡ false) (met e none) (λ _. act-absent a) (λ _. refl)
+absent (Always a) = act-absent a
+absent (IfMet e a) = by-test (λ (x : Effect). touches x ≡ false) (met e none) (λ _. act-absent a) (λ _. refl)
 
 -- under a key that is present nothing is added
 abbrev adds : Effect → Bool
-adds leave = false
-adds (add r) = true
-adds (replace r) = false
-adds remove = false
+adds Leave = false
+adds (Add r) = true
+adds (Replace r) = false
+adds Remove = false
 
 act-present : (a : Action) (r : Reference) → adds (act a (some r)) ≡ false
 act-present (Do.Set r) h = refl
 act-present Do.Remove h = refl
 
 present : (w : Wish) (r : Reference) → adds (effect w (some r)) ≡ false
-present (always a) r = act-present a r
-present (ifMet e a) r = by-test (λ (x : Effect). adds x ≡ false) (met e (some r)) (λ _. act-present a r) (λ _. refl)
+present (Always a) r = act-present a r
+present (IfMet e a) r = by-test (λ (x : Effect). adds x ≡ false) (met e (some r)) (λ _. act-present a r) (λ _. refl)
 
 module _ (st : Settings) (W : List ℕ) (s k : ℕ) (w : Wish) (leaf : Leaf st W s) where
-  able : (r : Found) (d : Deed) → View k (rowsAt st W s) r → placeOf r ≤ length (rowsAt st W s)
-      → effectOf d ≡ effect w (optionOf (presenceAt (rowsAt st W s) r)) → Able st W s (placeOf r) d
-  able r D.Leave v b e = record { held = leaf .held; slot = leaf .slot }
-  able r (D.Add n) v b e =
+  able : (r : Found) (d : Effect) → View k (rowsAt st W s) r → placeOf r ≤ length (rowsAt st W s)
+      → d ≡ effect w (optionOf (presenceAt (rowsAt st W s) r)) → Able st W s (placeOf r) d
+  able r Leave v b e = record { held = leaf .held; slot = leaf .slot }
+  able r (Add n) v b e =
       record { held = leaf .held; slot = leaf .slot; within = b; room = omega (arith, leaf .few, leaf .held .shape .limits .wide) }
-  able (F.At i) (D.Replace n) (stands p h q) b e = record { held = leaf .held; slot = leaf .slot; within = omega arith }
-  able (F.Before i) (D.Replace n) v b e = absurd (true≢false (ap touches e ∙ absent w))
-  able (F.At i) D.Remove (stands p h q) b e = record { held = leaf .held; slot = leaf .slot; within = omega arith }
-  able (F.Before i) D.Remove v b e = absurd (true≢false (ap touches e ∙ absent w))
+  able (F.At i) (Replace n) (stands p h q) b e = record { held = leaf .held; slot = leaf .slot; within = omega arith }
+  able (F.Before i) (Replace n) v b e = absurd (true≢false (ap touches e ∙ absent w))
+  able (F.At i) Remove (stands p h q) b e = record { held = leaf .held; slot = leaf .slot; within = omega arith }
+  able (F.Before i) Remove v b e = absurd (true≢false (ap touches e ∙ absent w))
 
 -- WHAT IT LEAVES
 
@@ -166,36 +168,36 @@ module _ (k : ℕ) (w : Wish) (l : List Row) where
       ∙ ap (λ (x : List Row). rows (below k (entries l)) ++ x) (sym (rows-append es (above k (from k (entries l)))))
       ∙ sym (rows-append (below k (entries l)) (es ++ above k (from k (entries l))))
 
-  -- the rows after a deed are the entries after the task
-  performed-step : (r : Found) (d : Deed) → View k l r → effectOf d ≡ effect w (held k (entries l)) → performed l (placeOf r) k d ≡ rows (step task (entries l))
-  performed-step r D.Leave v e = sym (rows-again l) ∙ ap rows (sym (step-idle task (entries l) (ap alters (sym e))))
-  performed-step (F.At i) (D.Add n) (stands p h q) e =
+  -- the rows after an effect are the entries after the task
+  performed-step : (r : Found) (d : Effect) → View k l r → d ≡ effect w (held k (entries l)) → performed l (placeOf r) k d ≡ rows (step task (entries l))
+  performed-step r Leave v e = sym (rows-again l) ∙ ap rows (sym (step-idle task (entries l) (ap alters (sym e))))
+  performed-step (F.At i) (Add n) (stands p h q) e =
       absurd (true≢false (ap adds e ∙ ap (λ (o : Option Reference). adds (effect w o)) (sym (presence-held k l (F.At i) (stands p h q)))
       ∙ present w (refOf (getD l i blank .body) (getD l i blank .size))))
-  performed-step (F.Before i) (D.Add n) (lacks p h g) e =
+  performed-step (F.Before i) (Add n) (lacks p h g) e =
       append-assoc (take i l) (entryRow (entryFor k n) ∷ []) (drop i l)
       ∙ joined i i (entryFor k n ∷ []) p (g ∙ entries-from k l ∙ ap (λ (j : ℕ). entries (drop j l)) (sym p))
-      ∙ ap rows (sym (stepped (add n) e))
-  performed-step (F.At i) (D.Replace n) (stands p h q) e =
+      ∙ ap rows (sym (stepped (Add n) e))
+  performed-step (F.At i) (Replace n) (stands p h q) e =
       set-split l i (entryRow (entryFor k n)) h
       ∙ joined i (suc i) (entryFor k n ∷ []) p (above-row k l i p h q)
-      ∙ ap rows (sym (stepped (replace n) e))
-  performed-step (F.Before i) (D.Replace n) (lacks p h g) e =
+      ∙ ap rows (sym (stepped (Replace n) e))
+  performed-step (F.Before i) (Replace n) (lacks p h g) e =
       absurd (true≢false (ap touches e ∙ ap (λ (o : Option Reference). touches (effect w o)) h ∙ absent w))
-  performed-step (F.At i) D.Remove (stands p h q) e =
+  performed-step (F.At i) Remove (stands p h q) e =
       ap (λ (j : ℕ). take i l ++ drop j l) (add-one i)
       ∙ joined i (suc i) [] p (above-row k l i p h q)
-      ∙ ap rows (sym (stepped remove e))
-  performed-step (F.Before i) D.Remove (lacks p h g) e =
+      ∙ ap rows (sym (stepped Remove e))
+  performed-step (F.Before i) Remove (lacks p h g) e =
       absurd (true≢false (ap touches e ∙ ap (λ (o : Option Reference). touches (effect w o)) h ∙ absent w))
 
 -- ONE KEY: what is decided by what was found can be done there, and done it is the task
 
-module _ {st : Settings} {W : List ℕ} {s k : ℕ} (w : Wish) (leaf : Leaf st W s) {r : Found} {p : Presence} (d : Deed) {i : ℕ} (sought : Sought (rowsAt st W s) k r) (ep : p ≡ presenceAt (rowsAt st W s) r) (ed : effectOf d ≡ effect w (optionOf p)) (ei : i ≡ placeOf r) where
+module _ {st : Settings} {W : List ℕ} {s k : ℕ} (w : Wish) (leaf : Leaf st W s) {r : Found} {p : Presence} (d : Effect) {i : ℕ} (sought : Sought (rowsAt st W s) k r) (ep : p ≡ presenceAt (rowsAt st W s) r) (ed : d ≡ effect w (optionOf p)) (ei : i ≡ placeOf r) where
   abbrev l : List Row
   l = rowsAt st W s
 
-  decided : effectOf d ≡ effect w (optionOf (presenceAt l r))
+  decided : d ≡ effect w (optionOf (presenceAt l r))
   decided = ed ∙ ap (λ (x : Presence). effect w (optionOf x)) ep
 
   pub key-able : Able st W s i d

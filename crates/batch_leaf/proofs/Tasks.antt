@@ -12,12 +12,12 @@ use Rattle.model.specs.declared.Entry.{Entry}
 use Rattle.model.specs.declared.Operation.{Operation}
 use Rattle.model.specs.declared.Operation.the-variants as Op
 use Rattle.model.specs.declared.Action.the-variants as Do
-use Rattle.model.specs.Plain.{Task, Wish, always, ifMet, each, pairs, references, step, effectOn, alters}
+use Rattle.model.specs.declared.Wish.{Wish}
+use Rattle.model.specs.declared.Wish.the-variants.{Always, IfMet}
+use Rattle.model.specs.Plain.{Task, each, pairs, references, step, effectOn, alters}
 use Rattle.model.specs.Change.{Run, Walked, takeTasks, counted}
 use Rattle.model.proofs.Lists.{by-test}
-use Rattle.batch_effect.specs.Deeds.{refOf}
-use Rattle.batch_leaf.specs.Leaf.{Lent, tasksOf}
-use Rattle.batch_leaf.specs.Keys.{taskOf}
+use Rattle.batch_leaf.specs.Leaf.{Lent, tasksOf, taskAt}
 
 -- THE NEXT TASK
 
@@ -27,7 +27,7 @@ each-next w (k ∷ ks) zero h = refl
 each-next w (k ∷ ks) (suc n) h = each-next w ks n (le-of-suc-le-suc h)
 
 pairs-next : (ps zs ks : List ℕ) (n : ℕ) → n < length ks → length ks ≤ length ps → length ks ≤ length zs
-    → drop n (pairs (references ps zs) ks) ≡ taskOf (getD ks n 0) Op.SetEach (refOf (getD ps n 0) (getD zs n 0)) ∷ drop (suc n) (pairs (references ps zs) ks)
+    → drop n (pairs (references ps zs) ks) ≡ taskAt Op.SetEach ps zs ks n ∷ drop (suc n) (pairs (references ps zs) ks)
 pairs-next ps zs [] n h p z = absurd (not-suc-le-zero h)
 pairs-next [] zs (k ∷ ks) n h p z = absurd (not-suc-le-zero p)
 pairs-next (a ∷ ps) [] (k ∷ ks) n h p z = absurd (not-suc-le-zero z)
@@ -35,11 +35,11 @@ pairs-next (a ∷ ps) (b ∷ zs) (k ∷ ks) zero h p z = refl
 pairs-next (a ∷ ps) (b ∷ zs) (k ∷ ks) (suc n) h p z = pairs-next ps zs ks n (le-of-suc-le-suc h) (le-of-suc-le-suc p) (le-of-suc-le-suc z)
 
 pub task-next : (op : Operation) (ps zs ks : List ℕ) (n : ℕ) → n < length ks → Lent op ps zs (length ks)
-    → drop n (tasksOf op ps zs ks) ≡ taskOf (getD ks n 0) op (refOf (getD ps n 0) (getD zs n 0)) ∷ drop (suc n) (tasksOf op ps zs ks)
-task-next (Op.Set r) ps zs ks n h l = each-next (always (Do.Set r)) ks n h
+    → drop n (tasksOf op ps zs ks) ≡ taskAt op ps zs ks n ∷ drop (suc n) (tasksOf op ps zs ks)
+task-next (Op.Set r) ps zs ks n h l = each-next (Always (Do.Set r)) ks n h
 task-next Op.SetEach ps zs ks n h l = pairs-next ps zs ks n h (l .0) (l .1)
-task-next Op.Remove ps zs ks n h l = each-next (always Do.Remove) ks n h
-task-next (Op.Compare e a) ps zs ks n h l = each-next (ifMet e a) ks n h
+task-next Op.Remove ps zs ks n h l = each-next (Always Do.Remove) ks n h
+task-next (Op.Compare e a) ps zs ks n h l = each-next (IfMet e a) ks n h
 
 -- the reference of that task is lent
 lent-less : (op : Operation) (ps zs : List ℕ) (n m : ℕ) → m ≤ n → Lent op ps zs n → Lent op ps zs m
@@ -68,10 +68,10 @@ pairs-few (r ∷ rs) [] = omega arith
 pairs-few (r ∷ rs) (k ∷ ks) = omega (arith, pairs-few rs ks)
 
 tasks-few : (op : Operation) (ps zs ks : List ℕ) → length (tasksOf op ps zs ks) ≤ length ks
-tasks-few (Op.Set r) ps zs ks = each-few (always (Do.Set r)) ks
+tasks-few (Op.Set r) ps zs ks = each-few (Always (Do.Set r)) ks
 tasks-few Op.SetEach ps zs ks = pairs-few (references ps zs) ks
-tasks-few Op.Remove ps zs ks = each-few (always Do.Remove) ks
-tasks-few (Op.Compare e a) ps zs ks = each-few (ifMet e a) ks
+tasks-few Op.Remove ps zs ks = each-few (Always Do.Remove) ks
+tasks-few (Op.Compare e a) ps zs ks = each-few (IfMet e a) ks
 
 pub task-none : (op : Operation) (ps zs ks : List ℕ) (n : ℕ) → length ks ≤ n → drop n (tasksOf op ps zs ks) ≡ []
 task-none op ps zs ks n h = drop-of-length-le (tasksOf op ps zs ks) {i = n} (omega (arith, tasks-few op ps zs ks))

@@ -12,11 +12,13 @@ use Rattle.slots.specs.Nodes.{Node, Now, nodes, putRows, rowsAt}
 use Rattle.slots.proofs.Nodes.{length-nodes, become, put-same, put-put}
 use Rattle.slots.proofs.Pairs.{own-rows}
 use Rattle.model.specs.declared.Settings.{Settings}
-use Rattle.model.specs.declared.Reference.{Reference}
 use Rattle.model.specs.declared.Counts.{Counts}
 use Rattle.model.specs.declared.Operation.{Operation}
 use Rattle.model.specs.declared.Entry.{Entry}
-use Rattle.model.specs.Plain.{Task, Wish, Effect, leave, add, replace, remove, step, effectOn, alters, count}
+use Rattle.model.specs.declared.Wish.{Wish}
+use Rattle.model.specs.declared.Effect.{Effect}
+use Rattle.model.specs.declared.Effect.the-variants.{Leave, Add, Replace, Remove}
+use Rattle.model.specs.Plain.{Task, step, effectOn, alters, count}
 use Rattle.model.specs.Sound.{Sorted}
 use Rattle.model.specs.Change.{Walked, takeTasks}
 use Rattle.model.proofs.Lists.{both-left, both-right}
@@ -24,19 +26,18 @@ use Rattle.model.proofs.Plain.{step-sorted}
 use Rattle.tree.specs.Bridge.{entryOf, entryRow}
 use Rattle.tree.proofs.ReadOff.{entries-back}
 use Rattle.tree.proofs.SoundHolds.{rows-again}
-use Rattle.batch_effect.specs.declared.Deed.{Deed}
-use Rattle.batch_effect.specs.Deeds.{refOf, wishOf, effectOf, Few}
-use Rattle.batch_leaf.specs.Leaf.{Leaf, Lent, tasksOf, Batch, Took, taking}
-use Rattle.batch_leaf.specs.Keys.{taskOf, KeyDone, goesOn}
+use Rattle.batch_effect.specs.Under.{Few}
+use Rattle.batch_leaf.specs.Leaf.{Leaf, Lent, tasksOf, wishAt, Batch, Took, taking}
+use Rattle.batch_leaf.specs.Keys.{KeyDone, goesOn}
 use Rattle.batch_leaf.proofs.Tasks.{task-next, task-none, lent-next}
 
 -- THE LOOP
 
 few-on : (e : Effect) (c : Counts) (n : ℕ) → Few c n → Few (count e c) (n + 1)
-few-on leave c n h = record { few = omega (arith, h .few) }
-few-on (add r) c n h = record { few = omega (arith, h .few) }
-few-on (replace r) c n h = record { few = omega (arith, h .few) }
-few-on remove c n h = record { few = omega (arith, h .few) }
+few-on Leave c n h = record { few = omega (arith, h .few) }
+few-on (Add r) c n h = record { few = omega (arith, h .few) }
+few-on (Replace r) c n h = record { few = omega (arith, h .few) }
+few-on Remove c n h = record { few = omega (arith, h .few) }
 
 -- what leaf s takes of some tasks, with any unused slots
 abbrev takes : Settings → List ℕ → ℕ → ℕ → List Task → Bool → Counts → List ℕ → Walked Entry
@@ -93,20 +94,20 @@ module _ {st : Settings} {W₀ W : List ℕ} {s : ℕ} {op : Operation} {ps zs k
     pub turn-lent : Lent op ps zs (next + 1)
     turn-lent = lent-next op ps zs ks next turn-within (t .batch .lent)
 
-    module _ (ref : Reference) (lent : wishOf op ref ≡ wishOf op (refOf (getD ps next 0) (getD zs next 0))) where
+    module _ (w : Wish) (asked : w ≡ wishAt op ps zs next) where
       abbrev task : Task
-      task = taskOf (getD ks next 0) op ref
+      task = record { key = getD ks next 0; wish = w }
 
       one-off : (us : List ℕ) → takes st W s ceiling (drop next ts) changed c us
           ≡ takeTasks (st .order) ceiling (drop (suc next) ts) (step task es) (changed || alters (effectOn task es)) (record { unused = us; counts = count (effectOn task es) c })
       one-off us =
           ap (λ (l : List Task). takes st W s ceiling l changed c us)
           (task-next op ps zs ks next (turn-within) (t .batch .lent)
-          ∙ ap (λ (w : Wish). record { key = getD ks next 0; wish = w } ∷ drop (suc next) ts) (sym lent))
+          ∙ ap (λ (w : Wish). record { key = getD ks next 0; wish = w } ∷ drop (suc next) ts) (sym asked))
           ∙ rw (length-map (rowsAt st W s) entryOf, turn-low) refl
 
-      pub turn-on : {W′ : List ℕ} {d : Deed} {changed′ : Bool} {c′ : Counts} → KeyDone st W W′ s task d → changed′ ≡ (changed || alters (effectOf d))
-          → c′ ≡ count (effectOf d) c → Turn st W₀ W′ s op ps zs ks at ceiling c₀ (next + 1) changed′ c′
+      pub turn-on : {W′ : List ℕ} {d : Effect} {changed′ : Bool} {c′ : Counts} → KeyDone st W W′ s task d → changed′ ≡ (changed || alters d)
+          → c′ ≡ count d c → Turn st W₀ W′ s op ps zs ks at ceiling c₀ (next + 1) changed′ c′
       turn-on {W′} {d} k e1 e2 =
           let w : next < length ks = turn-within in
           let new = map entryRow (step task es) in
@@ -126,7 +127,7 @@ module _ {st : Settings} {W₀ W : List ℕ} {s : ℕ} {op : Operation} {ps zs k
               lent = t .batch .lent;
               short = t .batch .short;
               within = omega arith;
-              few = subst (λ (x : Counts). Few x (next + 1)) (sym e2) (few-on (effectOf d) c next (t .batch .few));
+              few = subst (λ (x : Counts). Few x (next + 1)) (sym e2) (few-on d c next (t .batch .few));
             };
             same = λ us. rw (e1, e2, k .effect, now, add-one next) (sym (one-off us) ∙ t .same us);
           }

@@ -11,15 +11,12 @@ use Rattle.slots.specs.declared.Found.the-variants as F
 use Rattle.slots_raw.specs.Slots.{blank}
 use Rattle.slots.specs.Nodes.{Now, At, Rows, Room, nodes, rowsAt, putRows, putIn, without}
 use Rattle.model.specs.declared.Settings.{Settings}
-use Rattle.model.specs.declared.Reference.{Reference}
-use Rattle.model.specs.declared.Operation.{Operation}
+use Rattle.model.specs.declared.Effect.{Effect}
+use Rattle.model.specs.declared.Effect.the-variants.{Leave, Add, Replace, Remove}
 use Rattle.model.specs.Plain.{Task, step, effectOn, entryFor}
 use Rattle.tree.specs.Bridge.{entryOf, entryRow}
 use Rattle.batch_effect.specs.declared.Presence.{Presence}
 use Rattle.batch_effect.specs.declared.Presence.the-variants as P
-use Rattle.batch_effect.specs.declared.Deed.{Deed}
-use Rattle.batch_effect.specs.declared.Deed.the-variants as D
-use Rattle.batch_effect.specs.Deeds.{wishOf, effectOf}
 
 -- WHAT WAS FOUND
 
@@ -34,27 +31,24 @@ placeOf (F.Before i) = i
 
 -- WHAT IS DONE
 
--- the rows l after a deed for key k at place i
-abbrev pub performed : List Row → ℕ → ℕ → Deed → List Row
-performed l i k D.Leave = l
-performed l i k (D.Add r) = putIn l i (entryRow (entryFor k r) ∷ [])
-performed l i k (D.Replace r) = set l i (entryRow (entryFor k r))
-performed l i k D.Remove = without l i 1
+-- the rows l after an effect on key k at place i
+abbrev pub performed : List Row → ℕ → ℕ → Effect → List Row
+performed l i k Leave = l
+performed l i k (Add r) = putIn l i (entryRow (entryFor k r) ∷ [])
+performed l i k (Replace r) = set l i (entryRow (entryFor k r))
+performed l i k Remove = without l i 1
 
 -- node s lets it be done
-abbrev pub Able : Settings → List ℕ → ℕ → ℕ → Deed → Type 0
-Able st W s i D.Leave = At st W s
-Able st W s i (D.Add r) = Room st W s i 1
-Able st W s i (D.Replace r) = Rows st W s i 1
-Able st W s i D.Remove = Rows st W s i 1
+abbrev pub Able : Settings → List ℕ → ℕ → ℕ → Effect → Type 0
+Able st W s i Leave = At st W s
+Able st W s i (Add r) = Room st W s i 1
+Able st W s i (Replace r) = Rows st W s i 1
+Able st W s i Remove = Rows st W s i 1
 
-abbrev pub taskOf : ℕ → Operation → Reference → Task
-taskOf k op lent = record { key = k; wish = wishOf op lent }
-
--- the leaf's entries are what the task makes of them, and d is what it did
-pub record KeyDone (st : Settings) (W W′ : List ℕ) (s : ℕ) (t : Task) (d : Deed) : Type 0 where
+-- the leaf's entries are what the task makes of them, and e is its effect
+pub record KeyDone (st : Settings) (W W′ : List ℕ) (s : ℕ) (t : Task) (e : Effect) : Type 0 where
   pub did : Now st W W′ (putRows (nodes st W) s (map entryRow (step t (map entryOf (rowsAt st W s)))))
-  pub effect : effectOf d ≡ effectOn t (map entryOf (rowsAt st W s))
+  pub effect : e ≡ effectOn t (map entryOf (rowsAt st W s))
 
 -- WHAT IS TAKEN
 

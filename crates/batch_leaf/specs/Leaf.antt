@@ -4,18 +4,21 @@ use Prim.Native.Nat.{ℕ, _+_, _≤_, _<_, max}
 use mathlib.Core.Path.{_≡_}
 use mathlib.Core.Bool.{false}
 use mathlib.Core.List.{List, map}
-use lib.ListN.{length, drop}
+use lib.ListN.{length, drop, getD}
 use Rattle.slots.specs.Nodes.{Held, Now, nodes, rowsAt, putRows}
 use Rattle.model.specs.declared.Settings.{Settings}
 use Rattle.model.specs.declared.Entry.{Entry}
 use Rattle.model.specs.declared.Counts.{Counts}
 use Rattle.model.specs.declared.Operation.{Operation}
 use Rattle.model.specs.declared.Operation.the-variants as Op
+use Rattle.model.specs.declared.Action.the-variants as Do
+use Rattle.model.specs.declared.Wish.{Wish}
+use Rattle.model.specs.declared.Wish.the-variants.{Always, IfMet}
 use Rattle.model.specs.Plain.{Task, references, tasksFor}
 use Rattle.model.specs.Sound.{Sorted}
 use Rattle.model.specs.Change.{Run, Walked, takeTasks}
 use Rattle.tree.specs.Bridge.{entryOf, entryRow}
-use Rattle.batch_effect.specs.Deeds.{Few}
+use Rattle.batch_effect.specs.Under.{Few}
 use Rattle.batch_leaf.specs.declared.Progress.{Progress}
 
 -- a leaf in slot s that has room for one more entry
@@ -37,6 +40,16 @@ Lent (Op.Compare e a) ps zs n = Unit {0}
 -- the tasks of a batch, its references lent as places and sizes
 abbrev pub tasksOf : Operation → List ℕ → List ℕ → List ℕ → List Task
 tasksOf op ps zs ks = tasksFor op (references ps zs) ks
+
+-- what an operation wishes of key i, and the task of that key
+abbrev pub wishAt : Operation → List ℕ → List ℕ → ℕ → Wish
+wishAt (Op.Set r) ps zs i = Always (Do.Set r)
+wishAt Op.SetEach ps zs i = Always (Do.Set (record { place = getD ps i 0; size = getD zs i 0 }))
+wishAt Op.Remove ps zs i = Always Do.Remove
+wishAt (Op.Compare e a) ps zs i = IfMet e a
+
+abbrev pub taskAt : Operation → List ℕ → List ℕ → List ℕ → ℕ → Task
+taskAt op ps zs ks i = record { key = getD ks i 0; wish = wishAt op ps zs i }
 
 -- a batch of which the first `at` keys are taken, and counted
 pub record Batch (op : Operation) (ps zs ks : List ℕ) (at : ℕ) (c : Counts) : Type 0 where

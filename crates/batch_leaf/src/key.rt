@@ -4,35 +4,27 @@ ghost use Rattle.words.specs.Words.{words};
 ghost use Rattle.slots.specs.Nodes.{Now, At, nodes, rowsAt, putRows};
 ghost use Rattle.slots.specs.Search.{Sought};
 ghost use Rattle.batch_leaf.specs.Leaf.{Leaf};
-ghost use Rattle.batch_leaf.specs.Keys.{presenceAt, placeOf, performed, Able, KeyDone, taskOf};
-use batch_effect::Deed;
+ghost use Rattle.batch_leaf.specs.Keys.{presenceAt, placeOf, performed, Able, KeyDone};
 use batch_effect::Presence;
 use batch_effect::decide;
 use batch_effect::wide;
-use model::Operation;
-use model::Reference;
+use model::Effect;
 use model::Settings;
+use model::Wish;
 use slots::Found;
 use slots_raw::Row;
 
 // Does to leaf `s` what is asked of one key. Its answer is what was done.
-pub fn change_key(
-    pool: &mut [u8],
-    st: Settings,
-    s: usize,
-    key: u64,
-    op: Operation,
-    lent: Reference,
-) -> Deed
+pub fn change_key(pool: &mut [u8], st: Settings, s: usize, key: u64, wish: Wish) -> Effect
     requires { ⌜ Leaf st (words (now pool)) s ⌝ }
-    ensures { λ r. ⌜ KeyDone st (words (now (pool .entry))) (words (now (pool .exit))) s (taskOf key op lent) r ⌝ }
+    ensures { λ r. ⌜ KeyDone st (words (now (pool .entry))) (words (now (pool .exit))) s (record { key = key; wish = wish }) r ⌝ }
 {
     let found = slots::search(pool, st, s, key);
     let p = presence_at(pool, st, s, key, found);
-    let d = decide(op, lent, p);
+    let effect = decide(wish, p);
     let i = place_of(found);
-    perform(pool, st, s, i, key, d);
-    d
+    perform(pool, st, s, i, key, effect);
+    effect
 }
 
 // What stands where `key` was found.
@@ -58,23 +50,23 @@ fn place_of(found: Found) -> usize
     }
 }
 
-// Does a deed at row `i` of leaf `s`.
-fn perform(pool: &mut [u8], st: Settings, s: usize, i: usize, key: u64, d: Deed)
-    requires { ⌜ Able st (words (now pool)) s i d ⌝ }
-    ensures { λ _. let W = words (now (pool .entry)) in ⌜ Now st W (words (now (pool .exit))) (putRows (nodes st W) s (performed (rowsAt st W s) i key d)) ⌝ }
+// Does what is decided at row `i` of leaf `s`.
+fn perform(pool: &mut [u8], st: Settings, s: usize, i: usize, key: u64, e: Effect)
+    requires { ⌜ Able st (words (now pool)) s i e ⌝ }
+    ensures { λ _. let W = words (now (pool .entry)) in ⌜ Now st W (words (now (pool .exit))) (putRows (nodes st W) s (performed (rowsAt st W s) i key e)) ⌝ }
 {
-    match d {
-        Deed::Leave => {}
-        Deed::Add(r) => {
+    match e {
+        Effect::Leave => {}
+        Effect::Add(r) => {
             let body = r.place;
             let size = wide(r.size);
             slots::insert_row(pool, st, s, i, Row { key, body, size });
         }
-        Deed::Replace(r) => {
+        Effect::Replace(r) => {
             let body = r.place;
             let size = wide(r.size);
             slots::set_row(pool, st, s, i, Row { key, body, size });
         }
-        Deed::Remove => slots::remove_row(pool, st, s, i),
+        Effect::Remove => slots::remove_row(pool, st, s, i),
     }
 }

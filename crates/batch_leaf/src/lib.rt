@@ -1,6 +1,6 @@
 // One leaf takes keys of a batch: the Rust's `modify_leaf`.
 //
-// What is done under a key is decided first (crate batch_effect), then done (key); the counts follow from the deed. The
+// What is done under a key is decided first (crate batch_effect), then done (key); the counts follow from the effect. The
 // leaf's rows afterwards, the keys left and the counts are those of the model's leaf, for every batch.
 ghost use mathlib.Core.Path.{_≡_};
 ghost use mathlib.Core.List.{List};
@@ -8,8 +8,7 @@ ghost use Prim.Native.Nat.{ℕ, _+_};
 ghost use lib.ListN.{length, getD};
 ghost use Rattle.words.specs.Words.{words};
 ghost use Rattle.slots.specs.Nodes.{At, rowsAt};
-ghost use Rattle.batch_effect.specs.Deeds.{wishOf, refOf};
-ghost use Rattle.batch_leaf.specs.Leaf.{Leaf, Lent, Batch, Took, tasksOf};
+ghost use Rattle.batch_leaf.specs.Leaf.{Leaf, Lent, Batch, Took, tasksOf, wishAt};
 ghost use Rattle.batch_leaf.specs.Keys.{goesOn};
 
 mod key; // one key in a leaf
@@ -17,10 +16,12 @@ mod key; // one key in a leaf
 use batch_effect::altered;
 use batch_effect::counted;
 use key::change_key;
+use model::Action;
 use model::Counts;
 use model::Operation;
 use model::Reference;
 use model::Settings;
+use model::Wish;
 
 // How far a batch has come: the next key, whether the leaf changed, and the counts.
 pub struct Progress {
@@ -51,10 +52,10 @@ pub fn take_keys(
     let mut c = counts;
     while takes(pool, st, s, keys, next, ceiling) {
         let key = keys[next];
-        let lent = lent_at(op, places, sizes, next);
-        let d = change_key(pool, st, s, key, op, lent);
-        changed = altered(changed, d);
-        c = counted(c, d);
+        let wish = wish_at(op, places, sizes, next);
+        let effect = change_key(pool, st, s, key, wish);
+        changed = altered(changed, effect);
+        c = counted(c, effect);
         next += 1;
     }
     Progress {
@@ -79,19 +80,19 @@ fn takes(pool: &[u8], st: Settings, s: usize, keys: &[u64], next: usize, ceiling
     false
 }
 
-// The reference that is lent for key `i`, where the operation takes one for each key.
-fn lent_at(op: Operation, places: &[u64], sizes: &[u32], i: usize) -> Reference
+// What the operation wishes of key `i`: a SetEach has a reference for each key.
+fn wish_at(op: Operation, places: &[u64], sizes: &[u32], i: usize) -> Wish
     requires { ⌜ Lent op (now places) (now sizes) (i + 1) ⌝ }
-    ensures { λ r. ⌜ wishOf op r ≡ wishOf op (refOf (getD (now (places .entry)) i 0) (getD (now (sizes .entry)) i 0)) ⌝ }
+    ensures { λ r. ⌜ r ≡ wishAt op (now (places .entry)) (now (sizes .entry)) i ⌝ }
 {
     match op {
-        Operation::Set(_) => Reference { place: 0, size: 0 },
+        Operation::Set(r) => Wish::Always(Action::Set(r)),
         Operation::SetEach => {
             let place = places[i];
             let size = sizes[i];
-            Reference { place, size }
+            Wish::Always(Action::Set(Reference { place, size }))
         }
-        Operation::Remove => Reference { place: 0, size: 0 },
-        Operation::Compare(_, _) => Reference { place: 0, size: 0 },
+        Operation::Remove => Wish::Always(Action::Remove),
+        Operation::Compare(e, a) => Wish::IfMet(e, a),
     }
 }

@@ -29,8 +29,7 @@ use Rattle.batch_leaf.proofs.Tasks.{taken-unused}
 use Rattle.tree.specs.Bridge.{entryOf, entryRow, nodeFor, cellsOf, Stands, treeAt, unusedOf, Blank}
 use Rattle.tree.proofs.Unused.{used-in}
 use Rattle.batch_share.proofs.Parents.{unused-rows}
-use Rattle.batch_share.specs.declared.ChangeResult.{ChangeResult}
-use Rattle.batch_share.specs.Settle.{resultIs}
+use Rattle.model.specs.declared.ChangeResult.{ChangeResult}
 use Rattle.batch_node.specs.Calls.{runOf, Call, Came}
 
 -- a slot in use is one of the pool's
@@ -104,7 +103,7 @@ module _ {st : Settings} {W : List ℕ} {s : ℕ} {op : Operation} {ps zs ks : L
   alike = ap (λ (m : ℕ). takeTasks (max m (st .order)) ceiling (drop at ts) (map entryOf (rowsAt st W s)) false run) (sym (length-map (rowsAt st W s) entryOf))
 
   module _ {W′ : List ℕ} {r : Progress} (took : Took st W W′ s ks ts at ceiling run r) {n : ℕ} (en : n ≡ length (rowsAt st W′ s)) (v : ChangeResult)
-      (ev : resultIs v ≡ resultOf st (r .changed) n) where
+      (ev : v ≡ resultOf st (r .changed) n) where
     inside : s < length ns
     inside = omega (arith, length-nodes st W, slot-in st W s used)
 

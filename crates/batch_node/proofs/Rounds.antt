@@ -19,20 +19,19 @@ use Rattle.model.specs.declared.Operation.{Operation}
 use Rattle.model.specs.Tree.{Tree, greatestKey}
 use Rattle.model.specs.Plain.{Task}
 use Rattle.model.specs.Share.{Place}
-use Rattle.model.specs.Change.{Result, Outcome, Spot, seek, ceilingFor, resultOf, change, settle, isChange}
+use Rattle.model.specs.declared.ChangeResult.{ChangeResult}
+use Rattle.model.specs.Change.{Outcome, Spot, seek, ceilingFor, resultOf, change, settle, isChange}
 use Rattle.model.specs.Sound.{InLimits}
 use Rattle.model.specs.Contracts.{flat, joined, back, Says, takes}
 use Rattle.model.proofs.Lists.{both-left, both-right, all-head}
 use Rattle.model.proofs.Trees.{flat-three, flat-joined, back-joined}
-use Rattle.batch_effect.specs.Deeds.{refOf}
-use Rattle.batch_leaf.specs.Keys.{taskOf}
-use Rattle.batch_leaf.specs.Leaf.{Batch, tasksOf}
+use Rattle.batch_leaf.specs.Leaf.{Batch, tasksOf, taskAt}
 use Rattle.batch_leaf.proofs.Tasks.{task-next, task-none}
 use Rattle.tree.specs.Bridge.{childOf, rowFor, Holds, treeAt, unusedOf}
 use Rattle.tree.proofs.ReadOff.{Light, Lights, child-slot, held-tree, kids-read}
-use Rattle.batch_share.specs.declared.ChangeResult.{ChangeResult}
+use Rattle.model.specs.declared.ChangeResult.{ChangeResult}
 use Rattle.batch_share.specs.declared.Standing.{Standing}
-use Rattle.batch_share.specs.Settle.{resultIs, kidsAt, childAt, beforeAt, afterAt, Loose, Pend, Pending, Settled, Ended, Done}
+use Rattle.batch_share.specs.Settle.{kidsAt, childAt, beforeAt, afterAt, Loose, Pend, Pending, Settled, Ended, Done}
 use Rattle.batch_share.proofs.Zips.{drop-turned, getD-turned, map-turned}
 use Rattle.batch_share.proofs.Places.{before-is, child-is, after-is}
 use Rattle.batch_node.specs.declared.Reply.{Reply}
@@ -130,7 +129,7 @@ module _ {st : Settings} {W₀ W : List ℕ} {h s : ℕ} {op : Operation} {ps zs
     key-low = leb-true _ _ (both-left (leb (getD ks next 0) ceiling) (ltb i (length (rowsAt st W s))) later)
 
     abbrev first : Task
-    first = taskOf (getD ks next 0) op (refOf (getD ps next 0) (getD zs next 0))
+    first = taskAt op ps zs ks next
 
     firsts : drop next ts ≡ first ∷ drop (suc next) ts
     firsts = task-next op ps zs ks next next-in (m .batch .lent)
@@ -170,7 +169,7 @@ module _ {st : Settings} {W₀ W : List ℕ} {h s : ℕ} {op : Operation} {ps zs
           ∙ roams-yes ks next ceiling i (length (rowsAt st W s)) d (omega (arith, key, g)) ∙ q))
 
   pub round-end : (v : ChangeResult) {n : ℕ} → roams ks next ceiling i (length (rowsAt st W s)) ≡ false → n ≡ length (rowsAt st W s)
-      → resultIs v ≡ resultOf st changed n
+      → v ≡ resultOf st changed n
       → Came st W₀ W (suc h) s op ps zs ks at ceiling c₀ (record { next = next; result = v; counts = c; low = low })
   round-end v q en ev =
       let f : Answers (suc h) (nodes st W₀) (nodes st W) t₀ (change st (suc h) ceiling t₀ (drop at ts) (runOf (nodes st W₀) c₀)) (drop next ts)
@@ -281,7 +280,7 @@ module _ {st : Settings} {W₀ W : List ℕ} {h s : ℕ} {op : Operation} {ps zs
 
           abbrev Tells : ℕ → Tree h → List Task → Type 0
           Tells n x ts =
-              Answers h (nodes st W) ns₁ x (change st h n x ts (runOf (nodes st W) c)) (drop (y .next) us) (resultIs (y .result)) (y .counts)
+              Answers h (nodes st W) ns₁ x (change st h n x ts (runOf (nodes st W) c)) (drop (y .next) us) ((y .result)) (y .counts)
 
           answers : Tells top (z .child) (r .task ∷ r .tasks)
           answers =
@@ -353,7 +352,7 @@ module _ {st : Settings} {W₀ W : List ℕ} {h s : ℕ} {op : Operation} {ps zs
                 );
                 old = z .child;
                 loose = loosely;
-                says = subst (λ (x : Result). Says st x (o .node)) (sym (answers .result)) (says lim (r .walking) (r .le));
+                says = subst (λ (x : ChangeResult). Says st x (o .node)) (sym (answers .result)) (says lim (r .walking) (r .le));
                 stocked-before = stocked-sides lim (r .walking) (r .le) .0;
                 stocked-after = stocked-sides lim (r .walking) (r .le) .1;
                 room = omega (arith, ap takes (answers .result), ap length (answers .unused), room lim (r .walking) (r .le) (r .walking .enough));
@@ -374,9 +373,9 @@ module _ {st : Settings} {W₀ W : List ℕ} {h s : ℕ} {op : Operation} {ps zs
             abbrev p : Place (Tree h)
             p = settle st (o .result) (z .before) (o .node) (z .after) (o .run .unused)
 
-            place-is : settle st (resultIs (y .result)) (z .before) (o .node) (z .after) (unusedOf ns₁) ≡ p
+            place-is : settle st ((y .result)) (z .before) (o .node) (z .after) (unusedOf ns₁) ≡ p
             place-is =
-                ap (λ (x : Result). settle st x (z .before) (o .node) (z .after) (unusedOf ns₁)) (answers .result)
+                ap (λ (x : ChangeResult). settle st x (z .before) (o .node) (z .after) (unusedOf ns₁)) (answers .result)
                 ∙ ap (λ (f : List ℕ). settle st (o .result) (z .before) (o .node) (z .after) f) (answers .unused)
 
             abbrev There : ℕ → Bool → List Task → Counts → Type 0
@@ -398,7 +397,7 @@ module _ {st : Settings} {W₀ W : List ℕ} {h s : ℕ} {op : Operation} {ps zs
                   length-drop next us,
                 )
 
-            pub round-again : {changed′ : Bool} → changed′ ≡ (changed || isChange (resultIs (y .result)))
+            pub round-again : {changed′ : Bool} → changed′ ≡ (changed || isChange ((y .result)))
                 → Roaming st W₀ W₂ h s op ps zs ks at ceiling c₀ (to .at) (y .next) changed′ (y .counts) (to .low)
             round-again ec =
                 record {
@@ -411,7 +410,7 @@ module _ {st : Settings} {W₀ W : List ℕ} {h s : ℕ} {op : Operation} {ps zs
                   turns = turned .0;
                   index = ended .at ∙ ap (λ (x : Place (Tree h)). length (x .before)) place-is;
                   walking =
-                      subst (λ (b : Bool). There (turned .0) b (drop (y .next) us) (y .counts)) (sym (ec ∙ ap (λ (x : Result). changed || isChange x) (answers .result)))
+                      subst (λ (b : Bool). There (turned .0) b (drop (y .next) us) (y .counts)) (sym (ec ∙ ap (λ (x : ChangeResult). changed || isChange x) (answers .result)))
                       (subst (λ (ts : List Task). There (turned .0) (changed || isChange (o .result)) ts (y .counts)) (sym (answers .left))
                       (subst (There (turned .0) (changed || isChange (o .result)) (o .tasks)) (sym (answers .counts)) (turned .1)));
                 }

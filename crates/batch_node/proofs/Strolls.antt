@@ -12,7 +12,8 @@ use Rattle.model.specs.Lists.{hit, times, All}
 use Rattle.model.specs.Tree.{Item, Tree, slots}
 use Rattle.model.specs.Plain.{Task}
 use Rattle.model.specs.Share.{Place}
-use Rattle.model.specs.Change.{Result, Outcome}
+use Rattle.model.specs.declared.ChangeResult.{ChangeResult}
+use Rattle.model.specs.Change.{Outcome}
 use Rattle.model.specs.Contracts.{joined, back}
 use Rattle.model.proofs.Lists.{all-append, all-left, all-right, all-head, all-tail, hit-same, times-append}
 use Rattle.model.proofs.Trees.{back-joined, slotsIn, own, own-turned, slots-joined}
@@ -63,7 +64,7 @@ module _ {h s : ℕ} {ns : List S.Node} {before : List (Tree h)} {child : Tree h
   child-apart x = omega (arith, a .apart x, parts x h s before child after)
 
   -- THE CHILD CHANGED
-  module _ {ms : List S.Node} {o : Outcome (Tree h)} {ts : List Task} {r : Result} {c : Counts} (done : Answers h ns ms child o ts r c) (slot : o .node .slot ≡ child .slot)
+  module _ {ms : List S.Node} {o : Outcome (Tree h)} {ts : List Task} {r : ChangeResult} {c : Counts} (done : Answers h ns ms child o ts r c) (slot : o .node .slot ≡ child .slot)
       (same : (x : ℕ) → times x (slots (suc h) (o .node)) + times x (o .run .unused) ≡ times x (slots (suc h) child) + times x (unusedOf ns)) where
     -- used and unused slots together are what they were
     pub loose-same : (x : ℕ)
@@ -105,7 +106,7 @@ pub record Strolling (h s : ℕ) (ns₀ ns : List S.Node) (t₀ : Tree (suc h)) 
 
 -- the place after a turn
 module _ {h s : ℕ} {ns₀ ns ms ls : List S.Node} {t₀ : Tree (suc h)} {b₀ r₀ before : List (Tree h)} {old : Tree h} {after : List (Tree h)} {o : Outcome (Tree h)} {p : Place (Tree h)}
-    {ts : List Task} {r : Result} {c : Counts} (stroll : Strolling h s ns₀ ns t₀ b₀ r₀) (a : Among h s ns before old after)
+    {ts : List Task} {r : ChangeResult} {c : Counts} (stroll : Strolling h s ns₀ ns t₀ b₀ r₀) (a : Among h s ns before old after)
     (sought : reverseAux before (old ∷ after) ≡ reverseAux b₀ r₀)
     (done : Answers h ns ms old o ts r c) (slot : o .node .slot ≡ old .slot)
     (kept : (x : ℕ) → times x (slots (suc h) (o .node)) + times x (o .run .unused) ≡ times x (slots (suc h) old) + times x (unusedOf ns))

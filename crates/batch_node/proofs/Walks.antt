@@ -15,7 +15,8 @@ use Rattle.model.specs.Lists.{times, All}
 use Rattle.model.specs.Tree.{Node, Item, Tree, slots, greatestKey}
 use Rattle.model.specs.Plain.{Task}
 use Rattle.model.specs.Share.{Place}
-use Rattle.model.specs.Change.{Result, isChange, resultOf, Run, Walked, Outcome, Spot, seek, ceilingFor, settle, walk, change}
+use Rattle.model.specs.declared.ChangeResult.{ChangeResult}
+use Rattle.model.specs.Change.{isChange, resultOf, Run, Walked, Outcome, Spot, seek, ceilingFor, settle, walk, change}
 use Rattle.model.specs.Sound.{InLimits, Stocked, Fits}
 use Rattle.model.specs.Contracts.{flat, joined, back, Says, takes, Rising, Grants, Given, Enough}
 use Rattle.model.proofs.Lists.{all-left, all-right, all-head}
@@ -173,7 +174,7 @@ module _ {st : Settings} {h s ceiling : ℕ} {ns₀ : List S.Node} {t₀ : Tree 
   pub loose-fit : All Fits (flat h (back (spot .before) ++ (out .node .items ++ joined (spot .after))))
   loose-fit = subst (λ (xs : List (Item h)). All Fits (flat h xs)) settled-same place-fit
 
-  module _ {ms : List S.Node} {us : List Task} {r : Result} {d : Counts} (done : Answers h ns ms (spot .child) out us r d) where
+  module _ {ms : List S.Node} {us : List Task} {r : ChangeResult} {d : Counts} (done : Answers h ns ms (spot .child) out us r d) where
     slot-kept : out .node .slot ≡ spot .child .slot
     slot-kept = change-slot st h reach (spot .child) (t ∷ ts) (runOf ns c)
 

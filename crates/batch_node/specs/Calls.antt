@@ -12,12 +12,12 @@ use Rattle.model.specs.declared.Operation.{Operation}
 use Rattle.model.specs.Lists.{All}
 use Rattle.model.specs.Tree.{Tree, slots}
 use Rattle.model.specs.Plain.{Task}
-use Rattle.model.specs.Change.{Result, Run, Outcome, change}
+use Rattle.model.specs.declared.ChangeResult.{ChangeResult}
+use Rattle.model.specs.Change.{Run, Outcome, change}
 use Rattle.model.specs.Sound.{Fits}
 use Rattle.model.specs.Contracts.{flat, Due, Grants, Given, Ready, Enough}
 use Rattle.batch_leaf.specs.Leaf.{Batch, tasksOf}
 use Rattle.tree.specs.Bridge.{treeAt, unusedOf, Holds, Blank, Apart, Frame}
-use Rattle.batch_share.specs.Settle.{resultIs}
 use Rattle.batch_node.specs.declared.Reply.{Reply}
 
 -- what a batch carries beside its tasks
@@ -46,7 +46,7 @@ pub record Call (st : Settings) (W : List ℕ) (h s : ℕ) (op : Operation) (ps 
   pub batch : Batch op ps zs ks at c
 
 -- WHAT IS ANSWERED: the model's outcome o, and every slot in use outside the tree as it was
-pub record Answers (h : ℕ) (ns ms : List S.Node) (t : Tree h) (o : Outcome (Tree h)) (ts : List Task) (r : Result) (c : Counts) : Type 0 where
+pub record Answers (h : ℕ) (ns ms : List S.Node) (t : Tree h) (o : Outcome (Tree h)) (ts : List Task) (r : ChangeResult) (c : Counts) : Type 0 where
   pub holds : Holds ms h (o .node)
   pub unused : unusedOf ms ≡ o .run .unused
   pub frame : Frame ns ms (slots (suc h) t)
@@ -60,6 +60,6 @@ pub record Came (st : Settings) (W W′ : List ℕ) (h s : ℕ) (op : Operation)
   pub header : take 4 W′ ≡ take 4 W
   pub answers : Answers h (nodes st W) (nodes st W′) (treeAt (nodes st W) h s)
       (change st h ceiling (treeAt (nodes st W) h s) (drop at (tasksOf op ps zs ks)) (runOf (nodes st W) c))
-      (drop (r .next) (tasksOf op ps zs ks)) (resultIs (r .result)) (r .counts)
+      (drop (r .next) (tasksOf op ps zs ks)) ((r .result)) (r .counts)
   pub batch : Batch op ps zs ks (r .next) (r .counts)
   pub lowest : Lowest (nodes st W′) (r .low)

@@ -10,7 +10,7 @@ use batch_seek::changed_by;
 use batch_seek::result_of;
 use batch_seek::roams_on;
 use batch_seek::seek_child;
-use batch_share::ChangeResult;
+use model::ChangeResult;
 use model::Counts;
 use model::Operation;
 use model::Settings;

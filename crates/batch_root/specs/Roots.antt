@@ -10,11 +10,12 @@ use Rattle.slots.specs.Search.{Lowest}
 use Rattle.model.specs.declared.Settings.{Settings}
 use Rattle.model.specs.Lists.{All}
 use Rattle.model.specs.Tree.{Index, entriesOf, release}
-use Rattle.model.specs.Change.{Split, Remove, splitRoot, settleRoot, collapse}
+use Rattle.model.specs.declared.ChangeResult.the-variants.{Split, Remove}
+use Rattle.model.specs.Change.{splitRoot, settleRoot, collapse}
 use Rattle.model.specs.Sound.{Fits}
 use Rattle.tree.specs.Bridge.{treeAt, unusedOf, Blank, HoldsIndex, Apart}
-use Rattle.batch_share.specs.declared.ChangeResult.{ChangeResult}
-use Rattle.batch_share.specs.Settle.{resultIs, childAt}
+use Rattle.model.specs.declared.ChangeResult.{ChangeResult}
+use Rattle.batch_share.specs.Settle.{childAt}
 use Rattle.tree.specs.Sums.{Sums}
 use Rattle.batch_share.specs.Weigh.{rowOver}
 use Rattle.batch_root.specs.declared.Root.{Root}
@@ -77,8 +78,8 @@ pub record Returned (st : Settings) (W : List ℕ) (h low : ℕ) (v : ChangeResu
   pub keeps : Keeps st W (indexAt (nodes st W) h)
   pub lowest : Lowest (nodes st W) low
   -- a split takes a slot for each half
-  pub two : resultIs v ≡ Split → 2 ≤ length (unusedOf (nodes st W))
-  pub gone : resultIs v ≡ Remove → treeAt (nodes st W) h 0 .items ≡ []
+  pub two : v ≡ Split → 2 ≤ length (unusedOf (nodes st W))
+  pub gone : v ≡ Remove → treeAt (nodes st W) h 0 .items ≡ []
   -- one level more can be counted
   pub bounded : h < 64
 
@@ -88,7 +89,7 @@ pub record RootSettled (st : Settings) (W W′ : List ℕ) (x : Index) (r : Root
   pub lowest : Lowest (nodes st W′) (r .low)
 
 abbrev pub SettledRoot : Settings → List ℕ → List ℕ → ℕ → ChangeResult → Root → Type 0
-SettledRoot st W W′ h v r = RootSettled st W W′ (settleRoot (resultIs v) h (treeAt (nodes st W) h 0) (unusedOf (nodes st W))) r
+SettledRoot st W W′ h v r = RootSettled st W W′ (settleRoot v h (treeAt (nodes st W) h 0) (unusedOf (nodes st W))) r
 
 -- A ROOT WITH ONE CHILD, of height h, gives way to it
 

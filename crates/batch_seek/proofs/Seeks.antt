@@ -16,11 +16,11 @@ use Rattle.slots_raw.specs.Slots.{blank}
 use Rattle.slots.specs.Search.{keyAt}
 use Rattle.model.specs.declared.Settings.{Settings}
 use Rattle.model.specs.Tree.{Tree, greatestKey}
-use Rattle.model.specs.Change.{Changed, Absorb, Split, resultOf, isChange, ceilingFor, Spot, seek}
+use Rattle.model.specs.declared.ChangeResult.the-variants.{Changed, Absorb, Split}
+use Rattle.model.specs.Change.{resultOf, isChange, ceilingFor, Spot, seek}
 use Rattle.model.proofs.Lists.{by-test}
 use Rattle.tree.specs.Bridge.{rowFor}
-use Rattle.batch_share.specs.declared.ChangeResult.{ChangeResult}
-use Rattle.batch_share.specs.Settle.{resultIs}
+use Rattle.model.specs.declared.ChangeResult.{ChangeResult}
 use Rattle.batch_seek.specs.Seek.{roams, skip}
 
 -- A NODE'S RESULT
@@ -46,7 +46,7 @@ pub or-true : (b : Bool) → true ≡ (b || true)
 or-true true = refl
 or-true false = refl
 
-pub or-same : (b : Bool) {v w : ChangeResult} → v ≡ w → (b || isChange (resultIs w)) ≡ (b || isChange (resultIs v))
+pub or-same : (b : Bool) {v w : ChangeResult} → v ≡ w → (b || isChange w) ≡ (b || isChange v)
 or-same b e = rw e
 
 -- THE CEILING

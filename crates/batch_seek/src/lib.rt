@@ -6,9 +6,8 @@ ghost use lib.ListN.{length};
 ghost use Rattle.words.specs.Words.{words};
 ghost use Rattle.slots.specs.Nodes.{At, rowsAt};
 ghost use Rattle.model.specs.Change.{resultOf, isChange, ceilingFor};
-ghost use Rattle.batch_share.specs.Settle.{resultIs};
 ghost use Rattle.batch_seek.specs.Seek.{roams, Seeked};
-use batch_share::ChangeResult;
+use model::ChangeResult;
 use model::Settings;
 
 // Whether the walk of node `s` goes on from child `i` with key `next`.
@@ -66,7 +65,7 @@ pub fn ceiling_for(separator: u64, key: u64, ceiling: u64) -> u64
 
 // Whether a node is changed once a child of it has this result.
 pub fn changed_by(was: bool, v: ChangeResult) -> bool
-    ensures { λ r. ⌜ r ≡ (was || isChange (resultIs v)) ⌝ }
+    ensures { λ r. ⌜ r ≡ (was || isChange v) ⌝ }
 {
     match v {
         ChangeResult::Unchanged => was,
@@ -79,7 +78,7 @@ pub fn changed_by(was: bool, v: ChangeResult) -> bool
 
 // What became of a node that has `n` rows now: document 01's node result.
 pub fn result_of(st: Settings, changed: bool, n: usize) -> ChangeResult
-    ensures { λ r. ⌜ resultIs r ≡ resultOf st changed n ⌝ }
+    ensures { λ r. ⌜ r ≡ resultOf st changed n ⌝ }
 {
     if changed {
         if n == 0 {

@@ -23,9 +23,9 @@ use Rattle.tree.specs.Bridge.{rowFor, nodeFor, treeAt, childOf, Holds, Blank, u
 use Rattle.tree.specs.Bridge as T
 use Rattle.tree.proofs.Cells.{agree-items, cells-rest}
 use Rattle.tree.proofs.Unused.{used-in}
-use Rattle.batch_share.specs.declared.ChangeResult.{ChangeResult}
+use Rattle.model.specs.declared.ChangeResult.{ChangeResult}
 use Rattle.batch_share.specs.declared.Standing.{Standing}
-use Rattle.batch_share.specs.Settle.{resultIs, inner, kidsAt, childAt, beforeAt, afterAt, Pending, Settled, Ended, Done}
+use Rattle.batch_share.specs.Settle.{inner, kidsAt, childAt, beforeAt, afterAt, Pending, Settled, Ended, Done}
 use Rattle.batch_share.specs.Weigh.{rowOver, Sits, Renews, renewed}
 use Rattle.batch_share.specs.Steps.{Bounded, Family, Poise, Poised, Came}
 use Rattle.batch_share.proofs.Weights.{row-over, sums-fit, bounded-left, bounded-right}
@@ -162,7 +162,7 @@ module _ {st : Settings} {W : List ℕ} {h s i low : ℕ} {v : ChangeResult} (t 
             empty = first-settled .empty;
           }
 
-      poise : Poise st W₁ h s i low (takes (resultIs v)) b c a
+      poise : Poise st W₁ h s i low (takes v) b c a
       poise =
           record {
             family = family;
@@ -172,7 +172,7 @@ module _ {st : Settings} {W : List ℕ} {h s i low : ℕ} {v : ChangeResult} (t 
             few = omega (
               arith,
               t .few,
-              takes-one (resultIs v),
+              takes-one v,
               family-long family,
               ap length kids-are,
               length-map (nth ns s .rows) (λ r. treeAt ns h (childOf r)),
@@ -182,16 +182,16 @@ module _ {st : Settings} {W : List ℕ} {h s i low : ℕ} {v : ChangeResult} (t 
           }
 
       -- what a result's own function is asked
-      pub arm-asks : (u : ChangeResult) → v ≡ u → Poised st W₁ h s i low (takes (resultIs u)) × Says st (resultIs u) (childAt (nodes st W₁) h s i)
+      pub arm-asks : (u : ChangeResult) → v ≡ u → Poised st W₁ h s i low (takes u) × Says st u (childAt (nodes st W₁) h s i)
       arm-asks u e =
-          subst (λ (x : ChangeResult). Poised st W₁ h s i low (takes (resultIs x)) × Says st (resultIs x) (childAt (nodes st W₁) h s i)) e
-          (to-readings (poise-focus poise) (λ p q r. Poise st W₁ h s i low (takes (resultIs v)) p q r × Says st (resultIs v) q) (poise, t .says))
+          subst (λ (x : ChangeResult). Poised st W₁ h s i low (takes x) × Says st x (childAt (nodes st W₁) h s i)) e
+          (to-readings (poise-focus poise) (λ p q r. Poise st W₁ h s i low (takes v) p q r × Says st v q) (poise, t .says))
 
       from-kids : (W₂ : List ℕ) (q : Place (Tree h)) → Came st W W₂ h s kids q → Came st W W₂ h s (kidsAt ns h s) q
       from-kids W₂ q m = subst (λ (ks : List (Tree h)). Came st W W₂ h s ks q) kids-are m
 
       -- a result that leaves the place as it is
-      pub arm-stays : (u : ChangeResult) (r : Standing) → v ≡ u → settle st (resultIs u) b c a (unusedOf ns) ≡ first → r .at ≡ i → r .low ≡ low → Done st W W₁ h s i v r
+      pub arm-stays : (u : ChangeResult) (r : Standing) → v ≡ u → settle st u b c a (unusedOf ns) ≡ first → r .at ≡ i → r .low ≡ low → Done st W W₁ h s i v r
       arm-stays u r e q ea el =
           subst (λ (x : ChangeResult). Done st W W₁ h s i x r) (sym e)
           (ended-by st W W₁ h s u r b c a first q (from-kids W₁ first (record { held = w .held; header = w .header; settled = first-settled }))
@@ -203,9 +203,9 @@ module _ {st : Settings} {W : List ℕ} {h s i low : ℕ} {v : ChangeResult} (t 
           let x : Ended st W₁ W₂ h s u r kids b c a =
           subst (λ (ks : List (Tree h)). Ended st W₁ W₂ h s u r ks b c a) (family-kids family)
           (from-readings (poise-focus poise) (λ p q z. Ended st W₁ W₂ h s u r (kidsAt (nodes st W₁) h s) p q z) d) in
-          let same : settle st (resultIs u) b c a (unusedOf (nodes st W₁)) ≡ settle st (resultIs u) b c a (unusedOf ns) = ap (settle st (resultIs u) b c a) same-unused in
-          let q : Place (Tree h) = settle st (resultIs u) b c a (unusedOf ns) in
-          let m : Came st W W₂ h s kids (settle st (resultIs u) b c a (unusedOf ns)) =
+          let same : settle st u b c a (unusedOf (nodes st W₁)) ≡ settle st u b c a (unusedOf ns) = ap (settle st u b c a) same-unused in
+          let q : Place (Tree h) = settle st u b c a (unusedOf ns) in
+          let m : Came st W W₂ h s kids (settle st u b c a (unusedOf ns)) =
           record {
             held = x .held;
             header = x .header ∙ w .header;

@@ -5,6 +5,7 @@ use Prim.Native.Nat.{ℕ, _+_, _-_, _≤_, _<_}
 use native.Mathlib.Omega.{arith}
 use lib.ListN.{length, length-append}
 use borrow.Author.Tests.{le-leb, lt-leb}
+use Rattle.model.specs.declared.ChangeResult.the-variants.{Absorb}
 use Rattle.slots.specs.Nodes.{nodes, rowsAt}
 use Rattle.slots.specs.Search.{Lowest}
 use Rattle.model.specs.declared.Settings.{Settings}
@@ -14,7 +15,6 @@ use Rattle.model.specs.Sound.{Stocked}
 use Rattle.model.proofs.Lists.{all-head}
 use Rattle.tree.specs.Bridge.{unusedOf}
 use Rattle.batch_share.specs.Settle.{kidsAt, childAt, beforeAt, afterAt, Ended}
-use Rattle.batch_share.specs.declared.ChangeResult.the-variants as Be
 use Rattle.batch_share.specs.declared.Standing.{Standing}
 use Rattle.batch_share.specs.Steps.{Poise, Beside, Came, Left}
 use Rattle.batch_share.proofs.Puts.{low-same}
@@ -64,9 +64,9 @@ Answers st W W₁ h s r u v w z = Left st W W₁ h s r (kidsAt (nodes st W) h s)
 
 module _ {st : Settings} {W : List ℕ} {h s i low k : ℕ} {c : Tree h} where
   pub alone-ended : (b a : List (Tree h)) (r : Standing) → Poise st W h s i low k b c a → length (rowsAt st W s) ≡ 1 → r .at ≡ i → r .low ≡ low
-      → Ended st W W h s Be.Absorb r (kidsAt (nodes st W) h s) b c a
+      → Ended st W W h s Absorb r (kidsAt (nodes st W) h s) b c a
   alone-ended [] [] r t e ea el =
-      ended-by st W W h s Be.Absorb r [] c [] _ refl (stays-left t .came) (ea ∙ t .at) (subst (Lowest (nodes st W)) (sym el) (t .lowest))
+      ended-by st W W h s Absorb r [] c [] _ refl (stays-left t .came) (ea ∙ t .at) (subst (Lowest (nodes st W)) (sym el) (t .lowest))
   alone-ended [] (n ∷ a) r t e ea el = absurd (omega (arith, focus-long (poise-focus t), e))
   alone-ended (p ∷ b) a r t e ea el = absurd (omega (arith, focus-long (poise-focus t), e, t .at))
 
@@ -83,14 +83,14 @@ module _ {st : Settings} {W : List ℕ} {h s i low k : ℕ} {c : Tree h} where
 
   pub absorbed : (b a : List (Tree h)) (W₁ : List ℕ) (r : Standing) → Poise st W h s i low k b c a → (length (rowsAt st W s) ≡ 1 → ⊥) → r .at ≡ i - 1
       → Answers st W W₁ h s (r .low) (beforeAt (nodes st W) h s (r .at)) (childAt (nodes st W) h s (r .at)) (childAt (nodes st W) h s (r .at + 1)) (afterAt (nodes st W) h s (r .at + 1))
-      → Ended st W W₁ h s Be.Absorb r (kidsAt (nodes st W) h s) b c a
+      → Ended st W W₁ h s Absorb r (kidsAt (nodes st W) h s) b c a
   absorbed [] [] W₁ r t ne e x = absurd (ne (omega (arith, focus-long (poise-focus t), t .at)))
   absorbed [] (n ∷ a) W₁ r t ne e x =
       let z : i ≡ r .at = omega (arith, e, t .at) in
       let u : Beside st W h s (r .at) [] c n a = subst (λ (m : ℕ). Beside st W h s m [] c n a) z (on-beside (poise-focus t)) in
       let y : Answers st W W₁ h s (r .low) [] c n a = from-two u (Answers st W W₁ h s (r .low)) x in
-      ended-by st W W₁ h s Be.Absorb r [] c (n ∷ a) _ refl (y .came) (u .at) (y .lowest)
+      ended-by st W W₁ h s Absorb r [] c (n ∷ a) _ refl (y .came) (u .at) (y .lowest)
   absorbed (p ∷ b) a W₁ r t ne e x =
       let u : Beside st W h s (r .at) b p c a = subst (λ (m : ℕ). Beside st W h s m b p c a) (sym e) (back-beside (poise-focus t)) in
       let y : Answers st W W₁ h s (r .low) b p c a = from-two u (Answers st W W₁ h s (r .low)) x in
-      ended-by st W W₁ h s Be.Absorb r (p ∷ b) c a _ refl (y .came) (u .at) (y .lowest)
+      ended-by st W W₁ h s Absorb r (p ∷ b) c a _ refl (y .came) (u .at) (y .lowest)

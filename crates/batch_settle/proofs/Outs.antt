@@ -5,6 +5,7 @@ use Prim.Native.Nat.{ℕ, suc, _-_, min}
 use native.Mathlib.Omega.{arith}
 use lib.ListN.{length, set, length-set}
 use lib.Seq.{getD-set-other}
+use Rattle.model.specs.declared.ChangeResult.the-variants.{Remove}
 use Rattle.slots_raw.specs.declared.Row as R
 use Rattle.slots.specs.Nodes.{nodes, nth, rowsAt, unused, putRows, without, Rows, Now}
 use Rattle.slots.specs.Nodes as S
@@ -18,7 +19,6 @@ use Rattle.model.proofs.Lists.{hit-same}
 use Rattle.tree.specs.Bridge.{rowFor, unusedOf}
 use Rattle.tree.proofs.Unused.{unused-released}
 use Rattle.batch_share.specs.Settle.{kidsAt, Settled, Ended}
-use Rattle.batch_share.specs.declared.ChangeResult.the-variants as Be
 use Rattle.batch_share.specs.declared.Standing.{Standing}
 use Rattle.batch_share.specs.Steps.{Focus, Came}
 use Rattle.batch_share.proofs.Zips.{without-turned, map-turned}
@@ -77,14 +77,14 @@ module _ {st : Settings} {W : List ℕ} {h s i : ℕ} {b : List (Tree h)} {c : T
         record { held = v .held; header = v .header ∙ w .header; settled = rw e out-settles }
 
     -- the walk steps back
-    pub taken-out : (low : ℕ) → Lowest ns low → (r : Standing) → r .at ≡ i - 1 → r .low ≡ min low y → Ended st W W₂ h s Be.Remove r (kidsAt ns h s) b c a
+    pub taken-out : (low : ℕ) → Lowest ns low → (r : Standing) → r .at ≡ i - 1 → r .low ≡ min low y → Ended st W W₂ h s Remove r (kidsAt ns h s) b c a
     taken-out low l r ea el =
         let m : Came st W W₂ h s (kidsAt ns h s) outPlace = came-kids (t .family) W₂ outPlace out-came in
         let lo : Lowest (nodes st W₂) (r .low) = rw el (released-low st W W₂ low y l (m .settled .unused ∙ ap (λ (z : ℕ). release z (unusedOf ns)) (sym ey))) in
         by b (t .at) m lo
       where
         by : (d : List (Tree h)) → i ≡ length d → Came st W W₂ h s (kidsAt ns h s) (record { before = d; rest = a; unused = release (c .slot) (unusedOf ns) }) → Lowest (nodes st W₂) (r .low)
-            → Ended st W W₂ h s Be.Remove r (kidsAt ns h s) d c a
+            → Ended st W W₂ h s Remove r (kidsAt ns h s) d c a
         by [] e m lo = record { held = m .held; header = m .header; settled = m .settled; at = omega (arith, ea, e); lowest = lo }
         by (q ∷ d) e m lo =
             record {

@@ -7,10 +7,9 @@ ghost use Rattle.slots.specs.Nodes.{Now, nodes};
 ghost use Rattle.slots.specs.Search.{Lowest};
 ghost use Rattle.model.specs.Tree.{len, refill, release};
 ghost use Rattle.model.specs.Share.{halved, join, followed};
-ghost use Rattle.model.specs.Change.{Absorb, Remove};
+ghost use Rattle.model.specs.declared.ChangeResult.the-variants.{Absorb, Remove};
 ghost use Rattle.model.specs.Contracts.{Says};
 ghost use Rattle.tree.specs.Bridge.{unusedOf};
-ghost use Rattle.batch_share.specs.declared.ChangeResult.the-variants as Be;
 ghost use Rattle.batch_share.specs.Settle.{Done, childAt, afterAt};
 ghost use Rattle.batch_share.specs.Steps.{Poised, Neighbours, Parted, Rowed, Levels, levelNodes};
 use batch_share::Standing;
@@ -33,7 +32,7 @@ pub fn absorb(
 ) -> Standing
     requires { ⌜ Poised st (words (now pool)) below s i low 0 ⌝ }
     requires { ⌜ Says st Absorb (childAt (nodes st (words (now pool))) below s i) ⌝ }
-    ensures { λ r. ⌜ Done st (words (now (pool .entry))) (words (now (pool .exit))) below s i Be.Absorb r ⌝ }
+    ensures { λ r. ⌜ Done st (words (now (pool .entry))) (words (now (pool .exit))) below s i Absorb r ⌝ }
 {
     if slots::count(pool, st, s) == 1 {
         return Standing { at: i, low };
@@ -119,7 +118,7 @@ pub fn take_out(
 ) -> Standing
     requires { ⌜ Poised st (words (now pool)) below s i low 0 ⌝ }
     requires { ⌜ Says st Remove (childAt (nodes st (words (now pool))) below s i) ⌝ }
-    ensures { λ r. ⌜ Done st (words (now (pool .entry))) (words (now (pool .exit))) below s i Be.Remove r ⌝ }
+    ensures { λ r. ⌜ Done st (words (now (pool .entry))) (words (now (pool .exit))) below s i Remove r ⌝ }
 {
     let c = child_at(pool, st, below, s, i);
     slots::release(pool, st, c);

@@ -3,11 +3,11 @@ ghost use Rattle.words.specs.Words.{words};
 ghost use Rattle.batch_share.specs.Settle.{Pending, Done};
 use crate::join::absorb;
 use crate::join::take_out;
-use batch_share::ChangeResult;
 use batch_share::Standing;
 use batch_share::share_out;
 use batch_share::weigh::child_at;
 use batch_share::weigh::renew;
+use model::ChangeResult;
 use model::Settings;
 
 mod join; // a short child is joined with a sibling, an empty one taken out

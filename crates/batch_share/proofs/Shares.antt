@@ -20,9 +20,9 @@ use Rattle.model.proofs.Lists.{all-head, all-tail}
 use Rattle.model.proofs.Settles.{on-stocked, back-stocked}
 use Rattle.tree.specs.Bridge.{unusedOf}
 use Rattle.model.specs.Change.{settle}
-use Rattle.batch_share.specs.Settle.{resultIs, kidsAt, childAt, afterAt, Settled, Ended}
-use Rattle.batch_share.specs.declared.ChangeResult.{ChangeResult}
-use Rattle.batch_share.specs.declared.ChangeResult.the-variants as Be
+use Rattle.batch_share.specs.Settle.{kidsAt, childAt, afterAt, Settled, Ended}
+use Rattle.model.specs.declared.ChangeResult.{ChangeResult}
+use Rattle.model.specs.declared.ChangeResult.the-variants.{Split}
 use Rattle.batch_share.specs.declared.Standing.{Standing}
 use Rattle.batch_share.specs.Weigh.{Sits}
 use Rattle.batch_share.specs.Steps.{Family, Focus, Poise, Poised, Beside, Neighbours, Came, Left, Parted, Rowed, roomIn}
@@ -49,7 +49,7 @@ module _ {st : Settings} {W : List ℕ} {h s i low k : ℕ} {b : List (Tree h)} 
 -- WHERE A PLACE IS LEFT, the model's is
 
 pub ended-by : (st : Settings) (W W₁ : List ℕ) (h s : ℕ) (v : ChangeResult) (r : Standing) (b : List (Tree h)) (c : Tree h) (a : List (Tree h)) (q : Place (Tree h))
-    → settle st (resultIs v) b c a (unusedOf (nodes st W)) ≡ q → Came st W W₁ h s (kidsAt (nodes st W) h s) q → r .at ≡ length (q .before) → Lowest (nodes st W₁) (r .low)
+    → settle st v b c a (unusedOf (nodes st W)) ≡ q → Came st W W₁ h s (kidsAt (nodes st W) h s) q → r .at ≡ length (q .before) → Lowest (nodes st W₁) (r .low)
     → Ended st W W₁ h s v r (kidsAt (nodes st W) h s) b c a
 ended-by st W W₁ h s v r b c a q e m at l =
     record {
@@ -241,11 +241,11 @@ module _ {st : Settings} {W : List ℕ} {h s i low k : ℕ} {b : List (Tree h)} 
   -- the walk steps back
   back-ended : (W₁ W₂ : List ℕ) (r : Standing) → roomIn st (p ∷ b) ≡ true → r .at ≡ i - 1 → Came st W W₁ h s (reverseAux b (p ∷ c ∷ a)) backPlace
       → Rowed st W₁ W₂ h s i (r .low) (shareNext st (childAt (nodes st W₁) h s i) (afterAt (nodes st W₁) h s i) (unusedOf (nodes st W₁)))
-      → Ended st W W₂ h s Be.Split r (kidsAt (nodes st W) h s) (p ∷ b) c a
+      → Ended st W W₂ h s Split r (kidsAt (nodes st W) h s) (p ∷ b) c a
   back-ended W₁ W₂ r room ea m x =
       let y = from-rowed (poise-focus (back-poise W₁ m)) W₂ (r .low) (λ u w vs. shareNext st u w vs) (unusedOf (nodes st W)) (m .settled .unused) x in
       let z = came-kids (t .family) W₂ _ (recut-then pair-back (recut-back st h p c (t .family .held .shape .limits)) W₁ W₂ _ m (y .came)) in
-      ended-by st W W₂ h s Be.Split r (p ∷ b) c a _ (out-back st b p c a (unusedOf (nodes st W)) room) (step-back z) (ea ∙ omega (arith, t .at)) (y .lowest)
+      ended-by st W W₂ h s Split r (p ∷ b) c a _ (out-back st b p c a (unusedOf (nodes st W)) room) (step-back z) (ea ∙ omega (arith, t .at)) (y .lowest)
 
 -- of any child: whether one with room is before it, a test tells
 module _ {st : Settings} {W : List ℕ} {h s i : ℕ} {c : Tree h} {a : List (Tree h)} where
@@ -284,11 +284,11 @@ module _ {st : Settings} {W : List ℕ} {h s i low k : ℕ} {c : Tree h} {a : Li
   pub out-ended : (b : List (Tree h)) (W₁ W₂ : List ℕ) (r : Standing) → Poise st W h s i low k b c a → roomIn st b ≡ true → r .at ≡ i - 1
       → Parted st W W₁ h s (i - 1) (shareBack st (childAt (nodes st W) h s (i - 1)) (childAt (nodes st W) h s (i - 1 + 1)))
       → Rowed st W₁ W₂ h s i (r .low) (shareNext st (childAt (nodes st W₁) h s i) (afterAt (nodes st W₁) h s i) (unusedOf (nodes st W₁)))
-      → Ended st W W₂ h s Be.Split r (kidsAt (nodes st W) h s) b c a
+      → Ended st W W₂ h s Split r (kidsAt (nodes st W) h s) b c a
   out-ended [] W₁ W₂ r t room ea m x = absurd (true≢false (sym room))
   out-ended (p ∷ b) W₁ W₂ r t room ea m x = back-ended t W₁ W₂ r room ea (back-came t W₁ m) x
 
   pub out-stayed : (b : List (Tree h)) (W₁ : List ℕ) (r : Standing) → Poise st W h s i low k b c a → roomIn st b ≡ false → r .at ≡ i
-      → Left st W W₁ h s (r .low) (kidsAt (nodes st W) h s) (stay b (shareNext st c a (unusedOf (nodes st W)))) → Ended st W W₁ h s Be.Split r (kidsAt (nodes st W) h s) b c a
+      → Left st W W₁ h s (r .low) (kidsAt (nodes st W) h s) (stay b (shareNext st c a (unusedOf (nodes st W)))) → Ended st W W₁ h s Split r (kidsAt (nodes st W) h s) b c a
   out-stayed b W₁ r t room ea x =
-      ended-by st W W₁ h s Be.Split r b c a _ (out-stays st b c a (unusedOf (nodes st W)) room) (x .came) (ea ∙ t .at) (x .lowest)
+      ended-by st W W₁ h s Split r b c a _ (out-stays st b c a (unusedOf (nodes st W)) room) (x .came) (ea ∙ t .at) (x .lowest)

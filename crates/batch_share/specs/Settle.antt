@@ -12,21 +12,13 @@ use Rattle.model.specs.declared.Settings.{Settings}
 use Rattle.model.specs.Lists.{All}
 use Rattle.model.specs.Tree.{Tree, slots}
 use Rattle.model.specs.Share.{Place}
-use Rattle.model.specs.Change.{Result, Unchanged, Remove, Split, Absorb, Changed, settle}
+use Rattle.model.specs.declared.ChangeResult.{ChangeResult}
+use Rattle.model.specs.declared.ChangeResult.the-variants.{Unchanged, Remove, Split, Absorb, Changed}
+use Rattle.model.specs.Change.{settle}
 use Rattle.model.specs.Sound.{Stocked, Fits}
 use Rattle.model.specs.Contracts.{flat, joined, back, Says, takes}
 use Rattle.tree.specs.Bridge.{treeAt, childOf, nodeFor, cellsOf, Stands, Holds, unusedOf, Blank, Apart, Frame}
-use Rattle.batch_share.specs.declared.ChangeResult.{ChangeResult}
-use Rattle.batch_share.specs.declared.ChangeResult.the-variants as Be
 use Rattle.batch_share.specs.declared.Standing.{Standing}
-
--- the model's word for a result
-abbrev pub resultIs : ChangeResult → Result
-resultIs Be.Unchanged = Unchanged
-resultIs Be.Remove = Remove
-resultIs Be.Split = Split
-resultIs Be.Absorb = Absorb
-resultIs Be.Changed = Changed
 
 -- an interior node in slot s with these children
 abbrev pub inner : (h : ℕ) → ℕ → List (Tree h) → Tree (suc h)
@@ -62,11 +54,11 @@ pub record Pend (st : Settings) (W : List ℕ) (h s i low : ℕ) (v : ChangeResu
   pub few : length (rowsAt st W s) + 1 ≤ 2 * st .order
   pub old : Tree h
   pub loose : Loose h s (nodes st W) before old new after
-  pub says : Says st (resultIs v) new
+  pub says : Says st v new
   pub stocked-before : All (Stocked st) before
   pub stocked-after : All (Stocked st) after
   -- a split takes a slot
-  pub room : takes (resultIs v) ≤ length (unusedOf (nodes st W))
+  pub room : takes v ≤ length (unusedOf (nodes st W))
   -- totals fit their places in a row
   pub small : length (flat h (back before ++ (new .items ++ joined after))) < 1048576
   pub fit : All Fits (flat h (back before ++ (new .items ++ joined after)))
@@ -88,9 +80,9 @@ pub record Settled (h s : ℕ) (ns ms : List S.Node) (kids : List (Tree h)) (p :
 pub record Ended (st : Settings) (W W′ : List ℕ) (h s : ℕ) (v : ChangeResult) (r : Standing) (kids before : List (Tree h)) (new : Tree h) (after : List (Tree h)) : Type 0 where
   pub held : Held st W′
   pub header : take 4 W′ ≡ take 4 W
-  pub settled : Settled h s (nodes st W) (nodes st W′) kids (settle st (resultIs v) before new after (unusedOf (nodes st W)))
+  pub settled : Settled h s (nodes st W) (nodes st W′) kids (settle st v before new after (unusedOf (nodes st W)))
   -- the walk goes on from this child
-  pub at : r .at ≡ length (settle st (resultIs v) before new after (unusedOf (nodes st W)) .before)
+  pub at : r .at ≡ length (settle st v before new after (unusedOf (nodes st W)) .before)
   pub lowest : Lowest (nodes st W′) (r .low)
 
 abbrev pub Done : Settings → List ℕ → List ℕ → ℕ → ℕ → ℕ → ChangeResult → Standing → Type 0

@@ -5,15 +5,6 @@ mod share; // an over-full child is shared out or split
 pub use share::lesser;
 pub use share::share_out;
 
-// What became of a node that took keys (the Rust's `ChangeResult`).
-pub enum ChangeResult {
-    Unchanged,
-    Remove,
-    Absorb,
-    Changed,
-    Split,
-}
-
 // The child from which a walk goes on, and the lowest unused slot, or the number of slots where there is none.
 pub struct Standing {
     pub at: usize,

@@ -6,10 +6,9 @@ ghost use Rattle.words.specs.Words.{words};
 ghost use Rattle.slots.specs.Nodes.{nodes};
 ghost use Rattle.model.specs.Tree.{len, lowest, others};
 ghost use Rattle.model.specs.Share.{halved, shareBack, shareOn, splitOver, shareNext, followed};
-ghost use Rattle.model.specs.Change.{Split};
+ghost use Rattle.model.specs.declared.ChangeResult.the-variants.{Split};
 ghost use Rattle.model.specs.Contracts.{Says};
 ghost use Rattle.tree.specs.Bridge.{unusedOf};
-ghost use Rattle.batch_share.specs.declared.ChangeResult.the-variants as Be;
 ghost use Rattle.batch_share.specs.Settle.{Done, childAt, beforeAt, afterAt};
 ghost use Rattle.batch_share.specs.Steps.{Focused, Poised, Neighbours, Parted, Rowed, Hands, handedRows, roomIn};
 use crate::Standing;
@@ -31,7 +30,7 @@ pub fn share_out(
 ) -> Standing
     requires { ⌜ Poised st (words (now pool)) below s i low 1 ⌝ }
     requires { ⌜ Says st Split (childAt (nodes st (words (now pool))) below s i) ⌝ }
-    ensures { λ r. ⌜ Done st (words (now (pool .entry))) (words (now (pool .exit))) below s i Be.Split r ⌝ }
+    ensures { λ r. ⌜ Done st (words (now (pool .entry))) (words (now (pool .exit))) below s i Split r ⌝ }
 {
     if room_before(pool, st, below, s, i) {
         give_back(pool, st, below, s, i - 1);

@@ -12,7 +12,8 @@ use Rattle.model.specs.declared.Settings.{Settings}
 use Rattle.model.specs.declared.Totals.{Totals}
 use Rattle.model.specs.Tree.{totalsOf}
 use Rattle.model.specs.Answer.{Answer, refused, done, unless}
-use Rattle.model.specs.Look.{Listing, Request, Scanned, getAll, scan}
+use Rattle.model.specs.declared.Request.{Request}
+use Rattle.model.specs.Look.{Listing, Scanned, getAll, scan}
 use Rattle.model.specs.Refuse.{descend}
 use Rattle.model.specs.Frame.{writeNode}
 use borrow.Author.Tests.{not-true, not-false}

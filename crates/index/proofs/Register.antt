@@ -12,7 +12,8 @@ use Rattle.model.specs.Tree.{Index, newIndex, entriesOf}
 use Rattle.model.specs.Plain.{plainList, plainCounts, noCounts}
 use Rattle.model.specs.Change.{Batched, batch}
 use Rattle.model.specs.Answer.{Answer, refused, done, unless}
-use Rattle.model.specs.Look.{Listing, Request, listing, found, dueIn, getAll, scan}
+use Rattle.model.specs.declared.Request.{Request}
+use Rattle.model.specs.Look.{Listing, listing, found, dueIn, getAll, scan}
 use Rattle.model.specs.Refuse.{Call, tasksOf, refusal, descend}
 use Rattle.model.specs.Sound.{Sound}
 use Rattle.model.specs.Demands as D

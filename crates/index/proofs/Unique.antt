@@ -4,7 +4,7 @@ use mathlib.Core.List.{List}
 use Prim.Native.Nat.{ℕ}
 use Rattle.model.specs.declared.Settings.{Settings}
 use Rattle.model.specs.Answer.{Answer, refused, done}
-use Rattle.model.specs.Look.{Request}
+use Rattle.model.specs.declared.Request.{Request}
 use Rattle.model.specs.Refuse.{Call}
 use Rattle.model.proofs.Answers.{refused-done}
 use Rattle.frame_text.specs.declared.WriteAnswer.{WriteAnswer}

@@ -8,7 +8,8 @@ use Rattle.model.specs.declared.Totals.{Totals}
 use Rattle.model.specs.declared.Counts.{Counts}
 use Rattle.model.specs.Tree.{totalsOf, newIndex}
 use Rattle.model.specs.Answer.{Answer, refused, done}
-use Rattle.model.specs.Look.{Listing, Request, Scanned, scan}
+use Rattle.model.specs.declared.Request.{Request}
+use Rattle.model.specs.Look.{Listing, Scanned, scan}
 use Rattle.model.specs.Refuse.{Call, answer, get}
 use Rattle.model.specs.Frame.{writeNode}
 use Rattle.model.specs.Sound.{InLimits}

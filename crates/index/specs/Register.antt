@@ -11,7 +11,8 @@ use Rattle.model.specs.Lists.{All}
 use Rattle.model.specs.Tree.{entriesOf, adds, sumOf}
 use Rattle.model.specs.Plain.{plainList, plainCounts, noCounts}
 use Rattle.model.specs.Answer.{Answer, refused, done}
-use Rattle.model.specs.Look.{Listing, Request, listing, found, dueIn}
+use Rattle.model.specs.declared.Request.{Request}
+use Rattle.model.specs.Look.{Listing, listing, found, dueIn}
 use Rattle.model.specs.Refuse.{Call, tasksOf, descend}
 use Rattle.model.specs.Demands.{Lent, Apart}
 use Rattle.tree.specs.Pool.{SoundPool, indexOf}

@@ -5,7 +5,7 @@ use mathlib.Core.List.{List}
 use lib.ListN.{length}
 use Rattle.model.specs.declared.Settings.{Settings}
 use Rattle.model.specs.Answer.{Answer}
-use Rattle.model.specs.Look.{Request}
+use Rattle.model.specs.declared.Request.{Request}
 use Rattle.model.specs.Refuse.{Call}
 use Rattle.model.specs.Frame.{Frame, writeFrame}
 use Rattle.frame_text.specs.declared.WriteAnswer.{WriteAnswer}

@@ -15,7 +15,8 @@ use Rattle.model.specs.declared.Direction.{Direction}
 use Rattle.model.specs.declared.Direction.the-variants.{Up, Down}
 use Rattle.model.specs.Lists.{concat}
 use Rattle.model.specs.Tree.{Tree, len, entries, entriesOf, slots, greatestKey, totalsOf}
-use Rattle.model.specs.Look.{Request, listing, getAll, found, ends, untilEnd, reached, entered, openings, dueIn}
+use Rattle.model.specs.declared.Request.{Request}
+use Rattle.model.specs.Look.{listing, getAll, found, ends, untilEnd, reached, entered, openings, dueIn}
 use Rattle.model.specs.Look as M
 use Rattle.model.specs.Sound.{Rooted, Sound}
 use Rattle.model.proofs.Lists.{by-test, all-head}
@@ -30,9 +31,9 @@ use Rattle.tree.proofs.Pools.{sound-held, sound-holds-index, sound-index}
 use Rattle.tree.proofs.SoundHolds.{slot-read}
 use Rattle.look_output.specs.declared.Listed.{Listed}
 use Rattle.look_scan.specs.declared.Scanned.{Scanned}
-use Rattle.look_scan.specs.declared.query.Query.{Query}
+use Rattle.model.specs.declared.Request.{Request}
 use Rattle.look_output.specs.Output.{roomIn, page, enlistAll, freshPage}
-use Rattle.look_scan.specs.Walk.{requestOf, Walk, walkAt, visitAll, openingsOf, ToScan}
+use Rattle.look_scan.specs.Walk.{Walk, walkAt, visitAll, openingsOf, ToScan}
 use Rattle.look.specs.Lookup.{Grown}
 use Rattle.look.specs.Calls.{InPool, Writes}
 use Rattle.look_output.proofs.Outputs.{Shows, shows-none, shows-all}
@@ -131,7 +132,7 @@ module _ (l : List ℕ) (st : Settings) (height : ℕ) (k : InPool l st height) 
   abbrev pub start : Scanned
   start = record { written = 0; more = false; opened = 0 }
 
-  pub pool-scan : (q : Query) (out : List ℕ) → ToScan st (words l) height 0 q out (length out / 24) start
+  pub pool-scan : (q : Request) (out : List ℕ) → ToScan st (words l) height 0 q out (length out / 24) start
   pool-scan q out =
       own (λ s h. ToScan s (words l) h 0 q out (length out / 24) start)
       (record {
@@ -140,7 +141,7 @@ module _ (l : List ℕ) (st : Settings) (height : ℕ) (k : InPool l st height) 
         ready = record {
           fits = omega arith;
           fresh = refl;
-          few = omega (arith, openings-few (requestOf q) (indexOf l .height) (indexOf l .root), used-few (settingsIn l) (indexOf l) sound);
+          few = omega (arith, openings-few q (indexOf l .height) (indexOf l .root), used-few (settingsIn l) (indexOf l) sound);
         };
       })
 

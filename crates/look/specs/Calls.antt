@@ -8,7 +8,8 @@ use Rattle.model.specs.declared.Settings.{Settings}
 use Rattle.model.specs.declared.Bound.{Bound}
 use Rattle.model.specs.declared.Direction.{Direction}
 use Rattle.model.specs.declared.Sift.{Sift}
-use Rattle.model.specs.Look.{Listing, Request}
+use Rattle.model.specs.declared.Request.{Request}
+use Rattle.model.specs.Look.{Listing}
 use Rattle.tree.specs.Pool.{SoundPool, settingsIn, indexOf}
 use Rattle.look_output.specs.Output.{outputOf}
 

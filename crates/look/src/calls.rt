@@ -10,10 +10,10 @@ ghost use Rattle.look.specs.Calls.{InPool, Writes, requestFor};
 use crate::lookup::get_keys;
 use look_output::Listed;
 use look_scan::Scanned;
-use look_scan::query::Query;
 use look_scan::scan_node;
 use model::Bound;
 use model::Direction;
+use model::Request;
 use model::Settings;
 use model::Sift;
 use model::Totals;
@@ -50,7 +50,7 @@ pub fn scan(
     ensures { λ r. ⌜ Writes (look.scan (requestFor start end direction sift) (roomIn (now (out .entry))) (indexOf (now (pool .entry))) .listed) (now (out .entry)) (r .written) (r .more) (now (out .exit)) ⌝ }
     ensures { λ r. ⌜ r .opened ≡ look.scan (requestFor start end direction sift) (roomIn (now (out .entry))) (indexOf (now (pool .entry))) .opened ⌝ }
 {
-    let q = Query {
+    let q = Request {
         start,
         end,
         direction,

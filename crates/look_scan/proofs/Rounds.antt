@@ -13,29 +13,30 @@ use Rattle.slots.specs.Nodes as S
 use Rattle.model.specs.declared.Entry.{Entry}
 use Rattle.model.specs.declared.Settings.{Settings}
 use Rattle.model.specs.Tree.{Tree, greatestKey}
-use Rattle.model.specs.Look.{Request, entered, openings}
+use Rattle.model.specs.declared.Request.{Request}
+use Rattle.model.specs.Look.{entered, openings}
 use Rattle.tree.specs.Bridge.{rowFor, childOf, Holds, treeAt}
 use Rattle.look_scan.specs.declared.Scanned.{Scanned}
-use Rattle.look_scan.specs.declared.query.Query.{Query}
-use Rattle.look_scan.specs.Walk.{requestOf, enters, goesOn, placeIn, Walk, walkAt, visitAll, openingsOf, ToScan, ToEnter}
+use Rattle.model.specs.declared.Request.{Request}
+use Rattle.look_scan.specs.Walk.{enters, goesOn, placeIn, Walk, walkAt, visitAll, openingsOf, ToScan, ToEnter}
 use Rattle.tree.proofs.Children.{child-row, child-held}
 use Rattle.look_scan.proofs.Visits.{restOf, rest-all, rest-next, rest-end, visit-append, visit-ended, visit-few, inner-visited}
 
 -- INTO A CHILD
 
-module _ (st : Settings) (W : List ℕ) (h : ℕ) (r : Row) (q : Query) (out : List ℕ) (room : ℕ) (w : Scanned) (k : ToEnter st W h r q out room w) where
+module _ (st : Settings) (W : List ℕ) (h : ℕ) (r : Row) (q : Request) (out : List ℕ) (room : ℕ) (w : Scanned) (k : ToEnter st W h r q out room w) where
   abbrev child : Tree h
   child = treeAt (nodes st W) h (childOf r)
 
-  enters-is : enters q r ≡ entered (requestOf q) (suc h) child
+  enters-is : enters q r ≡ entered q (suc h) child
   enters-is = ap (enters q) (k .row)
 
   -- a child that is passed over adds nothing
-  pub passed-over : enters q r ≡ false → walkAt out w ≡ visitAll room (openingsOf (requestOf q) h (child ∷ [])) (walkAt out w)
+  pub passed-over : enters q r ≡ false → walkAt out w ≡ visitAll room (openingsOf q h (child ∷ [])) (walkAt out w)
   passed-over e = rw (sym enters-is ∙ e) refl
 
-  child-openings : enters q r ≡ true → openingsOf (requestOf q) h (child ∷ []) ≡ openings (requestOf q) h child
-  child-openings e = rw (sym enters-is ∙ e) (append-nil (openings (requestOf q) h child))
+  child-openings : enters q r ≡ true → openingsOf q h (child ∷ []) ≡ openings q h child
+  child-openings e = rw (sym enters-is ∙ e) (append-nil (openings q h child))
 
   pub to-child : (s : ℕ) → s ≡ childOf r → enters q r ≡ true → ToScan st W h s q out room w
   to-child s e t =
@@ -46,10 +47,10 @@ module _ (st : Settings) (W : List ℕ) (h : ℕ) (r : Row) (q : Query) (out : L
         ready = record { fits = k .ready .fits; fresh = k .ready .fresh; few = subst (λ (l : List (List Entry)). w .opened + length l ≤ 16384) (child-openings t) (k .ready .few) };
       })
 
-  pub from-child : (s : ℕ) (v : Walk) → s ≡ childOf r → enters q r ≡ true → v ≡ visitAll room (openings (requestOf q) h (treeAt (nodes st W) h s)) (walkAt out w)
-      → v ≡ visitAll room (openingsOf (requestOf q) h (child ∷ [])) (walkAt out w)
+  pub from-child : (s : ℕ) (v : Walk) → s ≡ childOf r → enters q r ≡ true → v ≡ visitAll room (openings q h (treeAt (nodes st W) h s)) (walkAt out w)
+      → v ≡ visitAll room (openingsOf q h (child ∷ [])) (walkAt out w)
   from-child s v e t g =
-      g ∙ ap (λ (n : ℕ). visitAll room (openings (requestOf q) h (treeAt (nodes st W) h n)) (walkAt out w)) e
+      g ∙ ap (λ (n : ℕ). visitAll room (openings q h (treeAt (nodes st W) h n)) (walkAt out w)) e
       ∙ ap (λ (l : List (List Entry)). visitAll room l (walkAt out w)) (sym (child-openings t))
 
 -- THE LOOP: what is left at turn j, walked from here, gives what the whole gives from the start; and the nodes opened can be counted
@@ -58,7 +59,7 @@ pub record Walking (q : Request) (ns : List S.Node) (h : ℕ) (rs : List Row) (r
   pub few : at .opened + length (restOf q ns h rs j) ≤ 16384
   pub walked : visitAll room (restOf q ns h rs j) (walkAt out at) ≡ visitAll room (restOf q ns h rs 0) first
 
-module _ (st : Settings) (W : List ℕ) (h s : ℕ) (q : Query) where
+module _ (st : Settings) (W : List ℕ) (h s : ℕ) (q : Request) where
   abbrev ns : List S.Node
   ns = nodes st W
 
@@ -66,7 +67,7 @@ module _ (st : Settings) (W : List ℕ) (h s : ℕ) (q : Query) where
   rs = rowsAt st W s
 
   abbrev r : Request
-  r = requestOf q
+  r = q
 
   -- the walk's state behind the interior itself
   abbrev pub opened-by : Scanned → Scanned

@@ -18,7 +18,8 @@ use Rattle.model.specs.declared.Direction.{Direction}
 use Rattle.model.specs.declared.Direction.the-variants.{Up, Down}
 use Rattle.model.specs.Lists.{concat, keep}
 use Rattle.model.specs.Tree.{Item, Tree, greatestKey}
-use Rattle.model.specs.Look.{Request, turned, due, untilEnd, reached, entered, openings, countTo}
+use Rattle.model.specs.declared.Request.{Request}
+use Rattle.model.specs.Look.{turned, due, untilEnd, reached, entered, openings, countTo}
 use Rattle.model.proofs.Lists.{by-test, keep-append}
 use Rattle.tree.specs.Bridge.{entryOf, childOf, treeAt}
 use Rattle.look_output.specs.declared.Listed.{Listed}

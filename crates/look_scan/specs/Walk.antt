@@ -14,19 +14,17 @@ use Rattle.model.specs.declared.Direction.{Direction}
 use Rattle.model.specs.declared.Direction.the-variants.{Up, Down}
 use Rattle.model.specs.Lists.{concat, keep}
 use Rattle.model.specs.Tree.{Tree}
-use Rattle.model.specs.Look.{Request, starts, ends, least, entered, openings}
+use Rattle.model.specs.declared.Request.{Request}
+use Rattle.model.specs.Look.{starts, ends, least, entered, openings}
 use Rattle.tree.specs.Bridge.{rowFor, childOf, childTotals, Holds, treeAt}
 use Rattle.look_scan.specs.declared.Scanned.{Scanned}
-use Rattle.look_scan.specs.declared.query.Query.{Query}
+use Rattle.model.specs.declared.Request.{Request}
 use Rattle.look_output.specs.Output.{Page, page, enlistAll}
 
 -- WHAT A SCAN ASKS
 
-abbrev pub requestOf : Query → Request
-requestOf q = record { start = q .start; end = q .end; direction = q .direction; sift = q .sift }
-
 -- whether the child of an interior's row is opened, by the separator and the size sum that the row stores
-abbrev pub enters : Query → Row → Bool
+abbrev pub enters : Request → Row → Bool
 enters q r = starts (q .start) (r .key) && leb (least (q .sift)) (childTotals r .size)
 
 -- whether the loop over children goes on behind a separator
@@ -34,7 +32,7 @@ abbrev pub goesOnBy : Direction → Bound → ℕ → Bool
 goesOnBy Up end key = ends end key
 goesOnBy Down end key = true
 
-abbrev pub goesOn : Query → ℕ → Bool
+abbrev pub goesOn : Request → ℕ → Bool
 goesOn q key = goesOnBy (q .direction) (q .end) key
 
 -- the place of the row that comes after j others, of n
@@ -42,7 +40,7 @@ abbrev pub placeIn : Direction → ℕ → ℕ → ℕ
 placeIn Up n j = j
 placeIn Down n j = n - 1 - j
 
-pub record PlaceIn (q : Query) (n j i : ℕ) : Type 0 where
+pub record PlaceIn (q : Request) (n j i : ℕ) : Type 0 where
   pub is : i ≡ placeIn (q .direction) n j
   pub inside : i < n
 
@@ -75,14 +73,14 @@ pub record Open (out : List ℕ) (room : ℕ) (w : Scanned) (nodes : List (List 
   pub few : w .opened + length nodes ≤ 16384
 
 -- .. and of the tree: the nodes hold it
-pub record ToScan (st : Settings) (W : List ℕ) (h s : ℕ) (q : Query) (out : List ℕ) (room : ℕ) (w : Scanned) : Type 0 where
+pub record ToScan (st : Settings) (W : List ℕ) (h s : ℕ) (q : Request) (out : List ℕ) (room : ℕ) (w : Scanned) : Type 0 where
   pub held : Held st W
   pub tree : Holds (nodes st W) h (treeAt (nodes st W) h s)
-  pub ready : Open out room w (openings (requestOf q) h (treeAt (nodes st W) h s))
+  pub ready : Open out room w (openings q h (treeAt (nodes st W) h s))
 
 -- the same of the child that a row names: the row is right
-pub record ToEnter (st : Settings) (W : List ℕ) (h : ℕ) (r : Row) (q : Query) (out : List ℕ) (room : ℕ) (w : Scanned) : Type 0 where
+pub record ToEnter (st : Settings) (W : List ℕ) (h : ℕ) (r : Row) (q : Request) (out : List ℕ) (room : ℕ) (w : Scanned) : Type 0 where
   pub held : Held st W
   pub tree : Holds (nodes st W) h (treeAt (nodes st W) h (childOf r))
   pub row : r ≡ rowFor (suc h) (treeAt (nodes st W) h (childOf r))
-  pub ready : Open out room w (openingsOf (requestOf q) h (treeAt (nodes st W) h (childOf r) ∷ []))
+  pub ready : Open out room w (openingsOf q h (treeAt (nodes st W) h (childOf r) ∷ []))

@@ -10,14 +10,14 @@ ghost use Rattle.model.specs.Lists.{keep};
 ghost use Rattle.model.specs.Look.{due, openings};
 ghost use Rattle.tree.specs.Bridge.{entryOf, childOf, treeAt};
 ghost use Rattle.look_output.specs.Output.{page, enlistAll};
-ghost use Rattle.look_scan.specs.Walk.{requestOf, walkAt, visitAll, openingsOf, ToScan, ToEnter};
-use crate::query::Query;
+ghost use Rattle.look_scan.specs.Walk.{walkAt, visitAll, openingsOf, ToScan, ToEnter};
 use crate::query::goes_on;
 use crate::query::is_due;
 use crate::query::is_entered;
 use crate::query::place_in;
 use look_output::Listed;
 use look_output::list_row;
+use model::Request;
 use model::Settings;
 use slots_raw::Row;
 
@@ -36,13 +36,13 @@ pub fn scan_node(
     st: Settings,
     height: usize,
     s: usize,
-    q: Query,
+    q: Request,
     out: &mut [u8],
     room: usize,
     w: Scanned,
 ) -> Scanned
     requires { ⌜ ToScan st (words (now pool)) height s q (now out) room w ⌝ }
-    ensures { λ r. ⌜ walkAt (now (out .exit)) r ≡ visitAll room (openings (requestOf q) height (treeAt (nodes st (words (now (pool .entry)))) height s)) (walkAt (now (out .entry)) w) ⌝ }
+    ensures { λ r. ⌜ walkAt (now (out .exit)) r ≡ visitAll room (openings q height (treeAt (nodes st (words (now (pool .entry)))) height s)) (walkAt (now (out .entry)) w) ⌝ }
 {
     if height == 0 {
         return scan_leaf(pool, st, s, q, out, room, w);
@@ -56,13 +56,13 @@ fn scan_children(
     st: Settings,
     below: usize,
     s: usize,
-    q: Query,
+    q: Request,
     out: &mut [u8],
     room: usize,
     w: Scanned,
 ) -> Scanned
     requires { ⌜ ToScan st (words (now pool)) (suc below) s q (now out) room w ⌝ }
-    ensures { λ r. ⌜ walkAt (now (out .exit)) r ≡ visitAll room (openings (requestOf q) (suc below) (treeAt (nodes st (words (now (pool .entry)))) (suc below) s)) (walkAt (now (out .entry)) w) ⌝ }
+    ensures { λ r. ⌜ walkAt (now (out .exit)) r ≡ visitAll room (openings q (suc below) (treeAt (nodes st (words (now (pool .entry)))) (suc below) s)) (walkAt (now (out .entry)) w) ⌝ }
 {
     let n = slots::count(pool, st, s);
     let mut at = Scanned {
@@ -89,13 +89,13 @@ fn scan_child(
     st: Settings,
     below: usize,
     row: Row,
-    q: Query,
+    q: Request,
     out: &mut [u8],
     room: usize,
     w: Scanned,
 ) -> Scanned
     requires { ⌜ ToEnter st (words (now pool)) below row q (now out) room w ⌝ }
-    ensures { λ r. ⌜ walkAt (now (out .exit)) r ≡ visitAll room (openingsOf (requestOf q) below (treeAt (nodes st (words (now (pool .entry)))) below (childOf row) ∷ [])) (walkAt (now (out .entry)) w) ⌝ }
+    ensures { λ r. ⌜ walkAt (now (out .exit)) r ≡ visitAll room (openingsOf q below (treeAt (nodes st (words (now (pool .entry)))) below (childOf row) ∷ [])) (walkAt (now (out .entry)) w) ⌝ }
 {
     if !is_entered(q, row) {
         return w;
@@ -109,13 +109,13 @@ fn scan_leaf(
     pool: &[u8],
     st: Settings,
     s: usize,
-    q: Query,
+    q: Request,
     out: &mut [u8],
     room: usize,
     w: Scanned,
 ) -> Scanned
     requires { ⌜ ToScan st (words (now pool)) 0 s q (now out) room w ⌝ }
-    ensures { λ r. ⌜ walkAt (now (out .exit)) r ≡ visitAll room (openings (requestOf q) 0 (treeAt (nodes st (words (now (pool .entry)))) 0 s)) (walkAt (now (out .entry)) w) ⌝ }
+    ensures { λ r. ⌜ walkAt (now (out .exit)) r ≡ visitAll room (openings q 0 (treeAt (nodes st (words (now (pool .entry)))) 0 s)) (walkAt (now (out .entry)) w) ⌝ }
 {
     let n = slots::count(pool, st, s);
     let opened = w.opened + 1;
@@ -138,10 +138,10 @@ fn scan_leaf(
 }
 
 // Lists the entry of a leaf's row, if it is due.
-fn list_due(q: Query, out: &mut [u8], room: usize, l: Listed, row: Row) -> Listed
+fn list_due(q: Request, out: &mut [u8], room: usize, l: Listed, row: Row) -> Listed
     requires { ⌜ 24 * room ≤ length (now out) ⌝ }
     requires { ⌜ l .more ≡ false ⌝ }
-    ensures { λ r. ⌜ page (now (out .exit)) r ≡ enlistAll room (keep (due (requestOf q)) (entryOf row ∷ [])) (page (now (out .entry)) l) ⌝ }
+    ensures { λ r. ⌜ page (now (out .exit)) r ≡ enlistAll room (keep (due q) (entryOf row ∷ [])) (page (now (out .entry)) l) ⌝ }
 {
     if !is_due(q, row) {
         return l;

@@ -4,23 +4,15 @@ ghost use Prim.Native.Nat.{_<_};
 ghost use lib.Dec.{leb};
 ghost use Rattle.model.specs.Look.{starts, ends, due, least};
 ghost use Rattle.tree.specs.Bridge.{entryOf};
-ghost use Rattle.look_scan.specs.Walk.{requestOf, enters, goesOn, PlaceIn};
+ghost use Rattle.look_scan.specs.Walk.{enters, goesOn, PlaceIn};
 use model::Bound;
 use model::Direction;
-use model::Sift;
+use model::Request;
 use slots_raw::Row;
 
-// A range with its direction, and a sift.
-pub struct Query {
-    pub start: Bound,
-    pub end: Bound,
-    pub direction: Direction,
-    pub sift: Sift,
-}
-
 // Whether the entry of a leaf's row is listed.
-pub fn is_due(q: Query, row: Row) -> bool
-    ensures { λ r. ⌜ r ≡ due (requestOf q) (entryOf row) ⌝ }
+pub fn is_due(q: Request, row: Row) -> bool
+    ensures { λ r. ⌜ r ≡ due q (entryOf row) ⌝ }
 {
     if row.body == 0 {
         return false;
@@ -35,7 +27,7 @@ pub fn is_due(q: Query, row: Row) -> bool
 }
 
 // Whether the child of an interior's row is opened.
-pub fn is_entered(q: Query, row: Row) -> bool
+pub fn is_entered(q: Request, row: Row) -> bool
     ensures { λ r. ⌜ r ≡ enters q row ⌝ }
 {
     if !passes_start(q, row.key) {
@@ -46,7 +38,7 @@ pub fn is_entered(q: Query, row: Row) -> bool
 }
 
 // Whether the loop over the children goes on behind the one with this separator. Backwards it always does.
-pub fn goes_on(q: Query, key: u64) -> bool
+pub fn goes_on(q: Request, key: u64) -> bool
     ensures { λ r. ⌜ r ≡ goesOn q key ⌝ }
 {
     let direction = q.direction;
@@ -57,7 +49,7 @@ pub fn goes_on(q: Query, key: u64) -> bool
 }
 
 // The row that a scan comes to after `j` others, of `n`.
-pub fn place_in(q: Query, n: usize, j: usize) -> usize
+pub fn place_in(q: Request, n: usize, j: usize) -> usize
     requires { ⌜ j < n ⌝ }
     ensures { λ r. ⌜ PlaceIn q n j r ⌝ }
 {
@@ -68,7 +60,7 @@ pub fn place_in(q: Query, n: usize, j: usize) -> usize
     }
 }
 
-fn passes_start(q: Query, key: u64) -> bool
+fn passes_start(q: Request, key: u64) -> bool
     ensures { λ r. ⌜ r ≡ starts (q .start) key ⌝ }
 {
     let start = q.start;
@@ -79,7 +71,7 @@ fn passes_start(q: Query, key: u64) -> bool
     }
 }
 
-fn passes_end(q: Query, key: u64) -> bool
+fn passes_end(q: Request, key: u64) -> bool
     ensures { λ r. ⌜ r ≡ ends (q .end) key ⌝ }
 {
     let end = q.end;
@@ -90,7 +82,7 @@ fn passes_end(q: Query, key: u64) -> bool
     }
 }
 
-fn is_large(q: Query, size: u64) -> bool
+fn is_large(q: Request, size: u64) -> bool
     ensures { λ r. ⌜ r ≡ leb (least (q .sift)) size ⌝ }
 {
     let sift = q.sift;

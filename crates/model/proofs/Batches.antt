@@ -14,7 +14,9 @@ use Rattle.model.specs.Lists.{hit, times, All, none, one, nil}
 use Rattle.model.specs.Tree.{Item, Tree, Index, len, depth, slots, entriesOf, slotsOf, others, release}
 use Rattle.model.specs.Plain.{Task, plainList, plainCounts, noCounts}
 use Rattle.model.specs.Share.{half}
-use Rattle.model.specs.Change.{Result, Unchanged, Remove, Split, Absorb, Changed, isChange, Run, Outcome, change, noCeiling, splitRoot, settleRoot, Batched, changeRoot, collapse, batch}
+use Rattle.model.specs.declared.ChangeResult.{ChangeResult}
+use Rattle.model.specs.declared.ChangeResult.the-variants.{Unchanged, Remove, Split, Absorb, Changed}
+use Rattle.model.specs.Change.{isChange, Run, Outcome, change, noCeiling, splitRoot, settleRoot, Batched, changeRoot, collapse, batch}
 use Rattle.model.specs.Refuse.{needed}
 use Rattle.model.specs.Sound.{InLimits, Stocked, Whole, Rooted, Sorted, Ascending}
 use Rattle.model.specs.Contracts.{flat, OverFull, Says, Rising, Removing, Given, Ready, Enough}
@@ -68,7 +70,7 @@ module _ (st : Settings) (lim : InLimits st) where
         ap (λ (z : List (Item h)). times s (slotsIn h z)) (take-append-drop (half (len t)) (t .items)),
       )
 
-  pub record RootSettled (r : Result) (h : ℕ) (t : Tree h) (unused : List ℕ) (y : Index) : Type 0 where
+  pub record RootSettled (r : ChangeResult) (h : ℕ) (t : Tree h) (unused : List ℕ) (y : Index) : Type 0 where
     pub list : entriesOf y ≡ flat h (t .items)
     pub fine : Fine st y
     pub rootSlot : y .root .slot ≡ t .slot
@@ -78,7 +80,7 @@ module _ (st : Settings) (lim : InLimits st) where
     pub lower : (r ≡ Split → ⊥) → (y .height ≤ h) × ((s : ℕ) → times s unused ≤ times s (y .unused))
     pub up : Ascending unused → Ascending (y .unused)
 
-  stays : (r : Result) (h : ℕ) (t : Tree h) (unused : List ℕ) → All (Whole st h) (t .items) → Sorted (flat h (t .items)) → Ready st h t
+  stays : (r : ChangeResult) (h : ℕ) (t : Tree h) (unused : List ℕ) → All (Whole st h) (t .items) → Sorted (flat h (t .items)) → Ready st h t
       → RootSettled r h t unused (record { height = h; root = t; unused = unused })
   stays r h t unused w s g =
       record {
@@ -96,7 +98,7 @@ module _ (st : Settings) (lim : InLimits st) where
   same-ready zero n t g e = omega (arith, g, e)
   same-ready (suc h) n t g e = record { some = omega (arith, g .some, e); few = omega (arith, g .few, e) }
 
-  pub root-settled : (r : Result) (h : ℕ) (n t : Tree h) (unused : List ℕ) → All (Whole st h) (t .items) → Sorted (flat h (t .items)) → Ready st h n
+  pub root-settled : (r : ChangeResult) (h : ℕ) (n t : Tree h) (unused : List ℕ) → All (Whole st h) (t .items) → Sorted (flat h (t .items)) → Ready st h n
       → ((isChange r ≡ false → Stocked st n) → Says st r t) → (isChange r ≡ false → len t ≡ len n) → RootSettled r h t unused (settleRoot r h t unused)
   root-settled Unchanged h n t unused w s g says kept = stays Unchanged h t unused w s (same-ready h n t g (kept refl))
   root-settled Changed h n t unused w s g says kept = stays Changed h t unused w s (stocked-ready st h t (says (λ q. absurd (true≢false q))))
@@ -242,7 +244,7 @@ module _ (st : Settings) (lim : InLimits st) where
     call-slots room s = call-settled .slots (call-two room) s ∙ call-owes .slots (call-enough room) s
 
     -- the room that is left, by the result
-    room-left : (r : Result) (h : ℕ) (n : Tree h) (unused : List ℕ) (left : List Task) → length left < suc (length ts)
+    room-left : (r : ChangeResult) (h : ℕ) (n : Tree h) (unused : List ℕ) (left : List Task) → length left < suc (length ts)
         → Spent h (suc (length ts)) (length left) (length (x .unused)) (length unused) → needed (suc (length ts)) (suc h) ≤ length (x .unused)
         → (r ≡ Split → 0 < h → left ≡ []) → Room (settleRoot r h n unused) left
     room-left Unchanged h n unused left lt sp room all = inl (room-same h (suc (length ts)) (length left) (length (x .unused)) (length unused) lt sp room)
@@ -259,7 +261,7 @@ module _ (st : Settings) (lim : InLimits st) where
     call-room (inl room) = room-left (called .result) (x .height) (called .node) (called .run .unused) (called .tasks) call-fewer spent room split-all
     call-room (inr rem) = inr (did-left (call-owes .did) rem)
 
-    headroom-left : (r : Result) (h : ℕ) (n : Tree h) (unused : List ℕ) (left : List Task) → h ≤ 6 → (r ≡ Split → 0 < h → left ≡ []) → Headroom (settleRoot r h n unused) left
+    headroom-left : (r : ChangeResult) (h : ℕ) (n : Tree h) (unused : List ℕ) (left : List Task) → h ≤ 6 → (r ≡ Split → 0 < h → left ≡ []) → Headroom (settleRoot r h n unused) left
     headroom-left Unchanged h n unused left le all = inl le
     headroom-left Changed h n unused left le all = inl le
     headroom-left Absorb h n unused left le all = inl le

@@ -16,7 +16,9 @@ use Rattle.model.specs.declared.Operation.{Operation}
 use Rattle.model.specs.declared.Operation.the-variants as Op
 use Rattle.model.specs.Lists.{hit, times, upFrom, All, none, one, nil, cons}
 use Rattle.model.specs.Tree.{Index, depth, slotsOf, newIndex}
-use Rattle.model.specs.Plain.{references, Wish, always, Task, each, pairs, tasksFor}
+use Rattle.model.specs.declared.Wish.{Wish}
+use Rattle.model.specs.declared.Wish.the-variants.{Always}
+use Rattle.model.specs.Plain.{references, Task, each, pairs, tasksFor}
 use Rattle.model.specs.Change.{noCeiling}
 use Rattle.model.specs.Refuse.{Call, tasksOf, isRemove, isEach, descend, needed, refusal}
 use Rattle.model.specs.Sound.{InLimits, Sound, Fits, Ascending, Once}
@@ -98,7 +100,7 @@ rising-of [] e = nil
 rising-of (t ∷ ts) e = cons (above-first (t .key) ts e) (rising-of ts (descend-tail (t .key) (map (λ t. t .key) ts) e))
 
 -- a Remove's tasks are removals, and so are none
-each-removes : (ks : List ℕ) → Removing (each (always Do.Remove) ks)
+each-removes : (ks : List ℕ) → Removing (each (Always Do.Remove) ks)
 each-removes [] = none
 each-removes (k ∷ ks) = one refl (each-removes ks)
 
@@ -122,7 +124,7 @@ each-grants : (w : Wish) → ((k : ℕ) → k < 2 ^ 64 → Grants Fits (record {
 each-grants w f none = none
 each-grants w f (one {x = k} g gs) = one (f k g) (each-grants w f gs)
 
-action-grants : (a : Action) (k : ℕ) → ActionFits a → k < 2 ^ 64 → Grants Fits (record { key = k; wish = always a })
+action-grants : (a : Action) (k : ℕ) → ActionFits a → k < 2 ^ 64 → Grants Fits (record { key = k; wish = Always a })
 action-grants (Do.Set r) k h g = record { key = g; place = h .place; size = h .size }
 action-grants Do.Remove k h g = tt
 

@@ -17,7 +17,9 @@ use Rattle.model.specs.Lists.{hit, times, All, none, one, cons}
 use Rattle.model.specs.Tree.{Node, Item, Tree, len, refill, slots, greatestKey}
 use Rattle.model.specs.Plain.{Task, step, effectOn, count, alters, plainList, plainCounts}
 use Rattle.model.specs.Share.{Place}
-use Rattle.model.specs.Change.{Result, Remove, Split, isChange, Run, Walked, Outcome, counted, takeTasks, changeLeaf, Spot, seek, ceilingFor, settle, walk, changeInterior, change}
+use Rattle.model.specs.declared.ChangeResult.{ChangeResult}
+use Rattle.model.specs.declared.ChangeResult.the-variants.{Remove, Split}
+use Rattle.model.specs.Change.{isChange, Run, Walked, Outcome, counted, takeTasks, changeLeaf, Spot, seek, ceilingFor, settle, walk, changeInterior, change}
 use Rattle.model.specs.Sound.{InLimits, Stocked, Whole, Sorted, Ascending}
 use Rattle.model.specs.Contracts.{flat, joined, back, OverFull, Says, takes, Rising, Removing, Due, Given, Ready, Enough}
 use Rattle.model.proofs.Lists.{by-test, both-left, both-right, or-left, or-right, all-append, all-left, all-right, all-map, all-both, all-turned, all-head, all-tail, all-drop, ordered-left, ordered-right}
@@ -272,7 +274,7 @@ module _ (st : Settings) (h : ℕ) where
 
   -- A TURN of the walk: the child at a spot is changed, and its place settled
 
-  pub record Turned (ceiling : ℕ) (ts left : List Task) (before rest : List (Node (Item h))) (run : Run) (result : Result) (p : Place (Node (Item h))) (d : Counts) : Type 0 where
+  pub record Turned (ceiling : ℕ) (ts left : List Task) (before rest : List (Node (Item h))) (run : Run) (result : ChangeResult) (p : Place (Node (Item h))) (d : Counts) : Type 0 where
     pub ranged : Ranged (p .before) (p .rest)
     pub did : Did ceiling ts left (flat h (back before ++ joined rest)) (flat h (itemsOf p)) (run .counts) d
     pub fewer : length left < length ts
@@ -468,7 +470,7 @@ module _ (st : Settings) (h : ℕ) where
       }
 
   -- where it goes on after a turn
-  goes-on : (turns ceiling : ℕ) (ts left : List Task) (before rest : List (Node (Item h))) (ch : Bool) (run : Run) (result : Result) (p : Place (Node (Item h))) (d : Counts)
+  goes-on : (turns ceiling : ℕ) (ts left : List Task) (before rest : List (Node (Item h))) (ch : Bool) (run : Run) (result : ChangeResult) (p : Place (Node (Item h))) (d : Counts)
       (w : Walked (Node (Item h))) → Turned ceiling ts left before rest run result p d
       → Strolled turns ceiling left (p .before) (p .rest) (ch || isChange result) (record { unused = p .unused; counts = d }) w
       → Strolled (suc turns) ceiling ts before rest ch run w

@@ -17,7 +17,11 @@ use Rattle.model.specs.declared.Counts.{Counts}
 use Rattle.model.specs.declared.Action.{Action}
 use Rattle.model.specs.declared.Action.the-variants as Do
 use Rattle.model.specs.Lists.{All, none, one, nil, cons}
-use Rattle.model.specs.Plain.{Wish, always, ifMet, alters, Effect, leave, add, replace, remove, Task, step, below, from, first, above, held, under, act, met, effect, effectOn, plainList, plainCounts, count, referenceOf, entryFor}
+use Rattle.model.specs.declared.Wish.{Wish}
+use Rattle.model.specs.declared.Wish.the-variants.{Always, IfMet}
+use Rattle.model.specs.declared.Effect.{Effect}
+use Rattle.model.specs.declared.Effect.the-variants.{Leave, Add, Replace, Remove}
+use Rattle.model.specs.Plain.{alters, Task, step, below, from, first, above, held, under, act, met, effect, effectOn, plainList, plainCounts, count, referenceOf, entryFor}
 use Rattle.model.specs.Sound.{Sorted}
 use Rattle.model.specs.Contracts.{Puts, Grants}
 use Rattle.model.proofs.Lists.{by-test, all-append, all-map, ordered-append, ordered-left, ordered-right}
@@ -143,18 +147,18 @@ module _ (k : ℕ) where
   above-sorted (cons {x = e} {xs = es} h s) = by-test Sorted (eqb (e .key) k) (λ q. s) (λ q. cons h s)
 
   at-key : (o : Option Reference) (e : Effect) → All (λ x. x .key ≡ k) (under k o e)
-  at-key O.none leave = none
-  at-key (some r) leave = one refl none
-  at-key o (add r) = one refl none
-  at-key o (replace r) = one refl none
-  at-key o remove = none
+  at-key O.none Leave = none
+  at-key (some r) Leave = one refl none
+  at-key o (Add r) = one refl none
+  at-key o (Replace r) = one refl none
+  at-key o Remove = none
 
   under-sorted : (o : Option Reference) (e : Effect) → Sorted (under k o e)
-  under-sorted O.none leave = nil
-  under-sorted (some r) leave = cons none nil
-  under-sorted o (add r) = cons none nil
-  under-sorted o (replace r) = cons none nil
-  under-sorted o remove = nil
+  under-sorted O.none Leave = nil
+  under-sorted (some r) Leave = cons none nil
+  under-sorted o (Add r) = cons none nil
+  under-sorted o (Replace r) = cons none nil
+  under-sorted o Remove = nil
 
   threefold : {a m c : List Entry} → Sorted a → Sorted m → Sorted c → Under k a → All (λ x. x .key ≡ k) m → Over k c → Sorted (a ++ (m ++ c))
   threefold sa sm sc ha hm hc =
@@ -209,14 +213,14 @@ module _ (P : Entry → Type 0) where
       puts Do.Remove = tt
 
       go : (w : Wish) → Grants P (record { key = t .key; wish = w })
-      go (always a) = puts a
-      go (ifMet e a) = puts a
+      go (Always a) = puts a
+      go (IfMet e a) = puts a
 
   abbrev Made : ℕ → Effect → Type 0
-  Made k leave = Unit {0}
-  Made k (add r) = P (entryFor k r)
-  Made k (replace r) = P (entryFor k r)
-  Made k remove = Unit {0}
+  Made k Leave = Unit {0}
+  Made k (Add r) = P (entryFor k r)
+  Made k (Replace r) = P (entryFor k r)
+  Made k Remove = Unit {0}
 
   act-made : (k : ℕ) (a : Action) (o : Option Reference) → Puts P k a → Made k (act a o)
   act-made k (Do.Set r) O.none p = p
@@ -225,15 +229,15 @@ module _ (P : Entry → Type 0) where
   act-made k Do.Remove (some held) p = tt
 
   effect-made : (k : ℕ) (w : Wish) (o : Option Reference) → Grants P (record { key = k; wish = w }) → Made k (effect w o)
-  effect-made k (always a) o p = act-made k a o p
-  effect-made k (ifMet e a) o p = by-test (Made k) (met e o) (λ q. act-made k a o p) (λ q. tt)
+  effect-made k (Always a) o p = act-made k a o p
+  effect-made k (IfMet e a) o p = by-test (Made k) (met e o) (λ q. act-made k a o p) (λ q. tt)
 
   under-all : (k : ℕ) (o : Option Reference) (e : Effect) → Kept k o → Made k e → All P (under k o e)
-  under-all k O.none leave h m = none
-  under-all k (some r) leave h m = one h none
-  under-all k o (add r) h m = one m none
-  under-all k o (replace r) h m = one m none
-  under-all k o remove h m = none
+  under-all k O.none Leave h m = none
+  under-all k (some r) Leave h m = one h none
+  under-all k o (Add r) h m = one m none
+  under-all k o (Replace r) h m = one m none
+  under-all k o Remove h m = none
 
   pub step-all : (t : Task) {es : List Entry} → Grants P t → All P es → All P (step t es)
   step-all t {es} g h =
@@ -247,17 +251,17 @@ module _ (P : Entry → Type 0) where
 
 -- A KEY THAT DOES NOTHING leaves the list as it is
 
-idle : (e : Effect) → alters e ≡ false → e ≡ leave
-idle leave q = refl
-idle (add r) q = absurd (true≢false q)
-idle (replace r) q = absurd (true≢false q)
-idle remove q = absurd (true≢false q)
+idle : (e : Effect) → alters e ≡ false → e ≡ Leave
+idle Leave q = refl
+idle (Add r) q = absurd (true≢false q)
+idle (Replace r) q = absurd (true≢false q)
+idle Remove q = absurd (true≢false q)
 
-idle-from : (k : ℕ) (fs : List Entry) → under k (first k fs) leave ++ above k fs ≡ fs
+idle-from : (k : ℕ) (fs : List Entry) → under k (first k fs) Leave ++ above k fs ≡ fs
 idle-from k [] = refl
 idle-from k (e ∷ fs) = go (eqb (e .key) k) refl
   where
-    go : (t : Bool) → eqb (e .key) k ≡ t → under k (cond t (some (referenceOf e)) O.none) leave ++ cond t fs (e ∷ fs) ≡ e ∷ fs
+    go : (t : Bool) → eqb (e .key) k ≡ t → under k (cond t (some (referenceOf e)) O.none) Leave ++ cond t fs (e ∷ fs) ≡ e ∷ fs
     go true q = ap (λ (j : ℕ). record { key = j; place = e .place; size = e .size } ∷ fs) (sym (eqb-true (e .key) k q))
     go false q = refl
 
@@ -269,11 +273,11 @@ step-idle t es q =
 -- LENGTHS: a key adds one entry at most, and a removal none
 
 under-long : (k : ℕ) (o : Option Reference) (e : Effect) → length (under k o e) ≤ 1
-under-long k O.none leave = omega arith
-under-long k (some r) leave = omega arith
-under-long k o (add r) = omega arith
-under-long k o (replace r) = omega arith
-under-long k o remove = omega arith
+under-long k O.none Leave = omega arith
+under-long k (some r) Leave = omega arith
+under-long k o (Add r) = omega arith
+under-long k o (Replace r) = omega arith
+under-long k o Remove = omega arith
 
 above-long : (k : ℕ) (fs : List Entry) → length (above k fs) ≤ length fs
 above-long k [] = omega arith
@@ -297,11 +301,11 @@ pub list-long : (ts : List Task) (es : List Entry) → length (plainList ts es) 
 list-long [] es = omega arith
 list-long (t ∷ ts) es = omega (arith, list-long ts (step t es), step-long t es)
 
-removed : (k : ℕ) (o : Option Reference) → under k o (effect (always Do.Remove) o) ≡ []
+removed : (k : ℕ) (o : Option Reference) → under k o (effect (Always Do.Remove) o) ≡ []
 removed k O.none = refl
 removed k (some r) = refl
 
-pub step-shrinks : (t : Task) (es : List Entry) → t .wish ≡ always Do.Remove → length (step t es) ≤ length es
+pub step-shrinks : (t : Task) (es : List Entry) → t .wish ≡ Always Do.Remove → length (step t es) ≤ length es
 step-shrinks t es e =
     let gone : under (t .key) (held (t .key) es) (effectOn t es) ≡ [] = rw e (removed (t .key) (held (t .key) es)) in
     omega (arith, parts-long t es, ap length gone)

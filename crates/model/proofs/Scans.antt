@@ -16,7 +16,8 @@ use Rattle.model.specs.declared.Direction.{Direction}
 use Rattle.model.specs.declared.Direction.the-variants.{Up, Down}
 use Rattle.model.specs.Lists.{concat, keep, All, none, one}
 use Rattle.model.specs.Tree.{Node, Item, Tree, entries, greatestKey, total, sumOf, isLive}
-use Rattle.model.specs.Look.{Request, least, starts, ends, turned, figure, due, untilEnd, reached, entered, openings}
+use Rattle.model.specs.declared.Request.{Request}
+use Rattle.model.specs.Look.{least, starts, ends, turned, figure, due, untilEnd, reached, entered, openings}
 use Rattle.model.specs.Sound.{Whole, Sorted}
 use Rattle.model.specs.Contracts.{flat}
 use Rattle.model.proofs.Lists.{not-both, all-append, all-map, ordered-left, ordered-right, concat-append, keep-append, keep-none, keep-reverse}

@@ -9,7 +9,7 @@ use Rattle.model.specs.declared.Settings.{Settings}
 use Rattle.model.specs.Lists.{times, All, none, one}
 use Rattle.model.specs.Tree.{Item, Tree, entries}
 use Rattle.model.specs.Share.{Place, shareOut}
-use Rattle.model.specs.Change.{Split}
+use Rattle.model.specs.declared.ChangeResult.the-variants.{Split}
 use Rattle.model.specs.Sound.{Stocked, Whole, Sorted}
 use Rattle.model.specs.Contracts.{flat, joined}
 use Rattle.model.specs.Demands.{Greatest, Separated, SharedSeparators, SoundSeparators}

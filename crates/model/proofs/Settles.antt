@@ -12,7 +12,9 @@ use Rattle.model.specs.declared.Settings.{Settings}
 use Rattle.model.specs.Lists.{hit, times, All, none, one, nil, cons}
 use Rattle.model.specs.Tree.{Node, len, refill, lowest, others, release}
 use Rattle.model.specs.Share.{Two, Row, Place, followed, stay, half, halved, fits, full, handed, shareBack, shareOn, splitOver, shareNext, shareOut, join, absorb, takeOut}
-use Rattle.model.specs.Change.{Result, Unchanged, Remove, Split, Absorb, Changed, resultOf, isChange, settle}
+use Rattle.model.specs.declared.ChangeResult.{ChangeResult}
+use Rattle.model.specs.declared.ChangeResult.the-variants.{Unchanged, Remove, Split, Absorb, Changed}
+use Rattle.model.specs.Change.{resultOf, isChange, settle}
 use Rattle.model.specs.Sound.{InLimits, Stocked, Ascending}
 use Rattle.model.specs.Contracts.{joined, back, OverFull, Says, takes}
 use Rattle.model.proofs.Lists.{by-test, all-append, all-map}
@@ -234,14 +236,14 @@ module _ (st : Settings) {X : Type 0} where
 
 -- HOW MANY NODES a result may take
 
-pub takes-none : (r : Result) → (r ≡ Split → ⊥) → takes r ≡ 0
+pub takes-none : (r : ChangeResult) → (r ≡ Split → ⊥) → takes r ≡ 0
 takes-none Unchanged h = refl
 takes-none Changed h = refl
 takes-none Absorb h = refl
 takes-none Split h = absurd (h refl)
 takes-none Remove h = refl
 
-pub takes-one : (r : Result) → takes r ≤ 1
+pub takes-one : (r : ChangeResult) → takes r ≤ 1
 takes-one Unchanged = omega arith
 takes-one Changed = omega arith
 takes-one Absorb = omega arith
@@ -369,7 +371,7 @@ module _ (st : Settings) {X : Type 0} where
         })
 
     -- THE LAW OF SETTLING
-    pub settles : (r : Result) {before : List (Node X)} (c : Node X) {after : List (Node X)} (unused : List ℕ) → Says st r c → All (Stocked st) before → All (Stocked st) after
+    pub settles : (r : ChangeResult) {before : List (Node X)} (c : Node X) {after : List (Node X)} (unused : List ℕ) → Says st r c → All (Stocked st) before → All (Stocked st) after
         → Settles (takes r) before c after unused (settle st r before c after unused)
     settles Unchanged {before} c {after} unused h b g = rests before c after unused h g
     settles Changed {before} c {after} unused h b g = rests before c after unused h g
@@ -378,7 +380,7 @@ module _ (st : Settings) {X : Type 0} where
     settles Remove c unused h b g = takeOut-settles c unused h b g
 
   -- a result that is no change leaves the place as it was
-  pub settle-idle : (r : Result) (before : List (Node X)) (c : Node X) (after : List (Node X)) (unused : List ℕ) → isChange r ≡ false
+  pub settle-idle : (r : ChangeResult) (before : List (Node X)) (c : Node X) (after : List (Node X)) (unused : List ℕ) → isChange r ≡ false
       → many (settle st r before c after unused) ≡ length before + suc (length after)
   settle-idle Unchanged before c after unused q = refl
   settle-idle Remove before c after unused q = absurd (true≢false q)

@@ -8,22 +8,22 @@ use lib.Dec.{leb, ltb}
 use Rattle.model.specs.declared.Entry.{Entry}
 use Rattle.model.specs.declared.Counts.{Counts}
 use Rattle.model.specs.declared.Settings.{Settings}
+use Rattle.model.specs.declared.ChangeResult.{ChangeResult}
+use Rattle.model.specs.declared.ChangeResult.the-variants.{Unchanged, Remove, Split, Absorb, Changed}
 use Rattle.model.specs.Tree.{Node, Item, Tree, Index, len, refill, greatestKey, lowest, others, release}
-use Rattle.model.specs.Plain.{Task, Effect, alters, step, effectOn, count, noCounts}
+use Rattle.model.specs.declared.Effect.{Effect}
+use Rattle.model.specs.Plain.{Task, alters, step, effectOn, count, noCounts}
 use Rattle.model.specs.Share.{Place, halved, shareOut, absorb, takeOut}
 
 -- RESULTS
 
-pub data Result : Type 0 where
-  Unchanged Remove Split Absorb Changed : Result
-
 -- what became of a node that was changed or not, and is now so long
-abbrev pub resultOf : Settings → Bool → ℕ → Result
+abbrev pub resultOf : Settings → Bool → ℕ → ChangeResult
 resultOf st false n = Unchanged
 resultOf st true zero = Remove
 resultOf st true (suc n) = cond (leb (suc n) (st .order)) (cond (leb (st .minimum) (suc n)) Changed Absorb) Split
 
-abbrev pub isChange : Result → Bool
+abbrev pub isChange : ChangeResult → Bool
 isChange Unchanged = false
 isChange Remove = true
 isChange Split = true
@@ -47,7 +47,7 @@ pub record Walked (X : Type 0) : Type 0 where
 -- a node after its change
 pub record Outcome (Y : Type 0) : Type 0 where
   pub node : Y
-  pub result : Result
+  pub result : ChangeResult
   pub tasks : List Task
   pub run : Run
 
@@ -90,7 +90,7 @@ abbrev pub ceilingFor : ℕ → ℕ → ℕ → ℕ
 ceilingFor separator k ceiling = cond (ltb separator k) k (min separator ceiling)
 
 -- where the walk goes on once a child has its result
-abbrev pub settle : Settings → {X : Type 0} → Result → List (Node X) → Node X → List (Node X) → List ℕ → Place (Node X)
+abbrev pub settle : Settings → {X : Type 0} → ChangeResult → List (Node X) → Node X → List (Node X) → List ℕ → Place (Node X)
 settle st Unchanged before c after unused = record { before = before; rest = c ∷ after; unused = unused }
 settle st Changed before c after unused = record { before = before; rest = c ∷ after; unused = unused }
 settle st Split before c after unused = shareOut st before c after unused
@@ -135,7 +135,7 @@ splitRoot h t unused =
     let two = halved (record { slot = lowest unused; items = t .items }) (lowest (others unused)) in
     record { height = suc h; root = record { slot = t .slot; items = two .lower ∷ two .upper ∷ [] }; unused = others (others unused) }
 
-abbrev pub settleRoot : Result → (h : ℕ) → Tree h → List ℕ → Index
+abbrev pub settleRoot : ChangeResult → (h : ℕ) → Tree h → List ℕ → Index
 settleRoot Unchanged h t unused = record { height = h; root = t; unused = unused }
 settleRoot Changed h t unused = record { height = h; root = t; unused = unused }
 settleRoot Absorb h t unused = record { height = h; root = t; unused = unused }

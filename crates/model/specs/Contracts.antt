@@ -11,8 +11,11 @@ use Rattle.model.specs.declared.Action.{Action}
 use Rattle.model.specs.declared.Action.the-variants as Do
 use Rattle.model.specs.Lists.{concat, All, Ordered}
 use Rattle.model.specs.Tree.{Node, Item, Tree, len, entries}
-use Rattle.model.specs.Plain.{Wish, always, ifMet, Task, entryFor}
-use Rattle.model.specs.Change.{Result, Unchanged, Remove, Split, Absorb, Changed}
+use Rattle.model.specs.declared.Wish.{Wish}
+use Rattle.model.specs.declared.Wish.the-variants.{Always, IfMet}
+use Rattle.model.specs.Plain.{Task, entryFor}
+use Rattle.model.specs.declared.ChangeResult.{ChangeResult}
+use Rattle.model.specs.declared.ChangeResult.the-variants.{Unchanged, Remove, Split, Absorb, Changed}
 use Rattle.model.specs.Sound.{Stocked, Whole, Sorted}
 
 -- NODES SIDE BY SIDE
@@ -39,7 +42,7 @@ module _ (st : Settings) {X : Type 0} where
     pub twice : len c ≤ 2 * st .order
 
   -- what it says of the child
-  abbrev pub Says : Result → Node X → Type 0
+  abbrev pub Says : ChangeResult → Node X → Type 0
   Says Unchanged c = Stocked st c
   Says Changed c = Stocked st c
   Says Absorb c = Stocked st c
@@ -47,7 +50,7 @@ module _ (st : Settings) {X : Type 0} where
   Says Remove c = c .items ≡ []
 
 -- how many nodes it may take
-abbrev pub takes : Result → ℕ
+abbrev pub takes : ChangeResult → ℕ
 takes Unchanged = 0
 takes Changed = 0
 takes Absorb = 0
@@ -62,7 +65,7 @@ Rising ts = Ordered (λ t u. t .key ≤ u .key) ts
 
 -- all tasks are plain removals
 abbrev pub Removing : List Task → Type 0
-Removing ts = All (λ t. t .wish ≡ always Do.Remove) ts
+Removing ts = All (λ t. t .wish ≡ Always Do.Remove) ts
 
 -- the next task is for this ceiling
 abbrev pub Due : ℕ → List Task → Type 0
@@ -79,8 +82,8 @@ module _ (P : Entry → Type 0) where
   Grants t = grants (t .key) (t .wish)
     where
       grants : ℕ → Wish → Type 0
-      grants k (always a) = Puts k a
-      grants k (ifMet e a) = Puts k a
+      grants k (Always a) = Puts k a
+      grants k (IfMet e a) = Puts k a
 
 -- A NODE AND THE TASKS THAT COME TO IT
 

@@ -19,7 +19,8 @@ use Rattle.model.specs.Plain.{Task, plainList, plainCounts, noCounts}
 use Rattle.model.specs.Share.{Place, shareOut}
 use Rattle.model.specs.Change.{Run, walk, change, changeRoot, Batched, batch}
 use Rattle.model.specs.Answer.{done}
-use Rattle.model.specs.Look.{Request, listing, found, getAll, dueIn, openings, scan}
+use Rattle.model.specs.declared.Request.{Request}
+use Rattle.model.specs.Look.{listing, found, getAll, dueIn, openings, scan}
 use Rattle.model.specs.Refuse.{Call, tasksOf, isRemove, refusal, answer, indexAfter}
 use Rattle.model.specs.Frame.{Frame, keysOf, framesOf, lineOf, entriesRefusal}
 use Rattle.model.specs.ReadFrame.{readLine}

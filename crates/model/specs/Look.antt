@@ -14,6 +14,7 @@ use Rattle.model.specs.declared.Direction.{Direction}
 use Rattle.model.specs.declared.Direction.the-variants.{Up, Down}
 use Rattle.model.specs.declared.Sift.{Sift}
 use Rattle.model.specs.declared.Sift.the-variants.{All, SizeAtLeast}
+use Rattle.model.specs.declared.Request.{Request}
 use Rattle.model.specs.Lists.{concat, keep}
 use Rattle.model.specs.Tree.{Item, Tree, Index, entriesOf, greatestKey, total, isLive}
 use Rattle.model.specs.Plain.{entryFor, held}
@@ -40,12 +41,6 @@ abbrev pub getAll : List ℕ → ℕ → Index → Listing
 getAll ks room x = listing room (found ks (entriesOf x))
 
 -- SCAN
-
-pub record Request : Type 0 where
-  pub start : Bound
-  pub end : Bound
-  pub direction : Direction
-  pub sift : Sift
 
 abbrev pub least : Sift → ℕ
 least All = 0

@@ -11,15 +11,14 @@ use Rattle.model.specs.declared.Action.{Action}
 use Rattle.model.specs.declared.Action.the-variants as Do
 use Rattle.model.specs.declared.Expectation.{Expectation}
 use Rattle.model.specs.declared.Expectation.the-variants as Expect
+use Rattle.model.specs.declared.Wish.{Wish}
+use Rattle.model.specs.declared.Wish.the-variants.{Always, IfMet}
+use Rattle.model.specs.declared.Effect.{Effect}
+use Rattle.model.specs.declared.Effect.the-variants.{Leave, Add, Replace, Remove}
 use Rattle.model.specs.declared.Operation.{Operation}
 use Rattle.model.specs.declared.Operation.the-variants as Op
 
 -- WHAT IS ASKED OF ONE KEY
-
--- an action, always or only where an expectation is met
-pub data Wish : Type 0 where
-  always : Action → Wish
-  ifMet : Expectation → Action → Wish
 
 pub record Task : Type 0 where
   pub key : ℕ
@@ -33,7 +32,7 @@ abbrev pub pairs : List Reference → List ℕ → List Task
 pairs [] [] = []
 pairs [] (k ∷ ks) = []
 pairs (r ∷ rs) [] = []
-pairs (r ∷ rs) (k ∷ ks) = record { key = k; wish = always (Do.Set r) } ∷ pairs rs ks
+pairs (r ∷ rs) (k ∷ ks) = record { key = k; wish = Always (Do.Set r) } ∷ pairs rs ks
 
 -- the references that some places and sizes make
 abbrev pub references : List ℕ → List ℕ → List Reference
@@ -44,25 +43,19 @@ references (p ∷ ps) (z ∷ zs) = record { place = p; size = z } ∷ references
 
 -- the tasks of an operation, with the references of a SetEach and the keys
 abbrev pub tasksFor : Operation → List Reference → List ℕ → List Task
-tasksFor (Op.Set r) rs ks = each (always (Do.Set r)) ks
+tasksFor (Op.Set r) rs ks = each (Always (Do.Set r)) ks
 tasksFor Op.SetEach rs ks = pairs rs ks
-tasksFor Op.Remove rs ks = each (always Do.Remove) ks
-tasksFor (Op.Compare e a) rs ks = each (ifMet e a) ks
+tasksFor Op.Remove rs ks = each (Always Do.Remove) ks
+tasksFor (Op.Compare e a) rs ks = each (IfMet e a) ks
 
 -- WHAT IT DOES, by the reference held under the key, if there is one
 
-pub data Effect : Type 0 where
-  leave : Effect
-  add : Reference → Effect
-  replace : Reference → Effect
-  remove : Effect
-
 -- setting an equal reference again is a replacement; removing an absent key does nothing
 abbrev pub act : Action → Option Reference → Effect
-act (Do.Set r) none = add r
-act (Do.Set r) (some held) = replace r
-act Do.Remove none = leave
-act Do.Remove (some held) = remove
+act (Do.Set r) none = Add r
+act (Do.Set r) (some held) = Replace r
+act Do.Remove none = Leave
+act Do.Remove (some held) = Remove
 
 abbrev pub same : Reference → Reference → Bool
 same a b = eqb (a .place) (b .place) && eqb (a .size) (b .size)
@@ -75,14 +68,14 @@ met (Expect.Holds r) none = false
 met (Expect.Holds r) (some held) = same r held
 
 abbrev pub effect : Wish → Option Reference → Effect
-effect (always a) held = act a held
-effect (ifMet e a) held = cond (met e held) (act a held) leave
+effect (Always a) held = act a held
+effect (IfMet e a) held = cond (met e held) (act a held) Leave
 
 abbrev pub alters : Effect → Bool
-alters leave = false
-alters (add r) = true
-alters (replace r) = true
-alters remove = true
+alters Leave = false
+alters (Add r) = true
+alters (Replace r) = true
+alters Remove = true
 
 -- COUNTS
 
@@ -90,10 +83,10 @@ abbrev pub noCounts : Counts
 noCounts = record { added = 0; replaced = 0; removed = 0; nothing = 0 }
 
 abbrev pub count : Effect → Counts → Counts
-count leave c = record { added = c .added; replaced = c .replaced; removed = c .removed; nothing = suc (c .nothing) }
-count (add r) c = record { added = suc (c .added); replaced = c .replaced; removed = c .removed; nothing = c .nothing }
-count (replace r) c = record { added = c .added; replaced = suc (c .replaced); removed = c .removed; nothing = c .nothing }
-count remove c = record { added = c .added; replaced = c .replaced; removed = suc (c .removed); nothing = c .nothing }
+count Leave c = record { added = c .added; replaced = c .replaced; removed = c .removed; nothing = suc (c .nothing) }
+count (Add r) c = record { added = suc (c .added); replaced = c .replaced; removed = c .removed; nothing = c .nothing }
+count (Replace r) c = record { added = c .added; replaced = suc (c .replaced); removed = c .removed; nothing = c .nothing }
+count Remove c = record { added = c .added; replaced = c .replaced; removed = suc (c .removed); nothing = c .nothing }
 
 -- THE LIST
 
@@ -127,11 +120,11 @@ held k es = first k (from k es)
 
 -- what stands under k after an effect
 abbrev pub under : ℕ → Option Reference → Effect → List Entry
-under k none leave = []
-under k (some r) leave = entryFor k r ∷ []
-under k h (add r) = entryFor k r ∷ []
-under k h (replace r) = entryFor k r ∷ []
-under k h remove = []
+under k none Leave = []
+under k (some r) Leave = entryFor k r ∷ []
+under k h (Add r) = entryFor k r ∷ []
+under k h (Replace r) = entryFor k r ∷ []
+under k h Remove = []
 
 abbrev pub effectOn : Task → List Entry → Effect
 effectOn t es = effect (t .wish) (held (t .key) es)

@@ -2,8 +2,7 @@
 //
 // What they mean stands in specs/: a reader with document 01 in hand finds each of its rules there, one file to an idea.
 ghost use mathlib.Core.Path.{_≡_};
-ghost use Rattle.model.specs.Tree.{isLive};
-ghost use Rattle.model.specs.Plain.{noCounts, referenceOf};
+ghost use Rattle.model.specs.Plain.{noCounts};
 ghost use Rattle.model.specs.Look.{least};
 ghost use Rattle.model.specs.Refuse.{isRemove};
 
@@ -47,6 +46,29 @@ pub enum Operation {
     Compare(Expectation, Action),
 }
 
+// What is asked of one key: an action, always or only where an expectation is met.
+pub enum Wish {
+    Always(Action),
+    IfMet(Expectation, Action),
+}
+
+// What is done under a key.
+pub enum Effect {
+    Leave,
+    Add(Reference),
+    Replace(Reference),
+    Remove,
+}
+
+// What became of a node that took keys (the Rust's `ChangeResult`).
+pub enum ChangeResult {
+    Unchanged,
+    Remove,
+    Absorb,
+    Changed,
+    Split,
+}
+
 // How many keys of a batch added, replaced, removed, or did nothing.
 pub struct Counts {
     pub added: usize,
@@ -80,10 +102,12 @@ pub enum Sift {
     SizeAtLeast(u32),
 }
 
-pub fn is_live(e: Entry) -> bool
-    ensures { λ r. ⌜ r ≡ isLive e ⌝ }
-{
-    e.place != 0
+// What a scan asks: a range with its direction, and a sift.
+pub struct Request {
+    pub start: Bound,
+    pub end: Bound,
+    pub direction: Direction,
+    pub sift: Sift,
 }
 
 pub fn no_counts() -> Counts
@@ -94,15 +118,6 @@ pub fn no_counts() -> Counts
         replaced: 0,
         removed: 0,
         nothing: 0,
-    }
-}
-
-pub fn reference_of(e: Entry) -> Reference
-    ensures { λ r. ⌜ r ≡ referenceOf e ⌝ }
-{
-    Reference {
-        place: e.place,
-        size: e.size,
     }
 }
 

@@ -32,8 +32,8 @@ shared-slice-read-key c =
     let taken = c .before in
     turn-within (taken .before .before .before .loop .inv .0) (sym (taken .before .takes .ensures) ∙ taken .if1 .taken)
 
-lent-at-requires : tie.Need-lent-at-requires Inv-loop μ-loop
-lent-at-requires c κs =
+wish-at-requires : tie.Need-wish-at-requires Inv-loop μ-loop
+wish-at-requires c κs =
     let taken = c .before in
     turn-lent (taken .before .before .before .loop .inv .0) (sym (taken .before .takes .ensures) ∙ taken .if1 .taken)
 
@@ -65,7 +65,7 @@ loop-again c =
     let lent = changed .before .before in
     let taken = lent .before .before in
     let inv = taken .before .before .before .loop .inv in (
-      turn-on (inv .0) (sym (taken .before .takes .ensures) ∙ taken .if1 .taken) (lent .lent-at .result) (lent .lent-at .ensures) (changed .change-key .ensures)
+      turn-on (inv .0) (sym (taken .before .takes .ensures) ∙ taken .if1 .taken) (lent .wish-at .result) (lent .wish-at .ensures) (changed .change-key .ensures)
           (c .before .altered .ensures) (c .counted .ensures),
       changed .change-key .kept .0 ∙ inv .1,
     )
@@ -89,7 +89,7 @@ take-keys-spec =
     takes-requires
     mul-key
     shared-slice-read-key
-    lent-at-requires
+    wish-at-requires
     change-key-requires
     (λ c κs. tt)
     counted-requires

@@ -98,59 +98,47 @@ abbrev interior-change-μ-loop : interior-change-lts.MeasureT-loop
 interior-change-μ-loop pool₀ st below s keys places sizes op at ceiling low i₀ next₀ changed₀ c₀ lowest₀ pool i next changed c lowest =
     length keys - next
 
--- src/lib.rt:102:5
 interior-change-loop-holds : (t : ℕ) → interior-change-lts.Need-loop-holds (ic t) (interior-change-at t) interior-change.Post interior-change-Inv-loop interior-change-μ-loop
 interior-change-loop-holds t c = (round-start (c .before .before .before .before .pre .1), refl)
 
--- src/lib.rt:102:11
 interior-change-roams-on-requires : (t : ℕ) → interior-change-lts.Need-roams-on-requires (ic t) (interior-change-at t) interior-change.Post interior-change-Inv-loop interior-change-μ-loop
 interior-change-roams-on-requires t c κs = round-at (c .before .loop .inv .0)
 
--- src/lib.rt:103:19
 interior-change-mul-key : (t : ℕ) → interior-change-lts.Need-mul-key (ic t) (interior-change-at t) interior-change.Post interior-change-Inv-loop interior-change-μ-loop
 interior-change-mul-key t c =
     let w : c .before .before .before .loop .next < length (c .before .before .before .before .before .before .before .before .args .keys .now) = next-in (c .before .before .before .loop .inv .0) (sym (c .before .roams-on .ensures) ∙ c .if1 .taken) in
     omega arith
 
--- src/lib.rt:103:19
 interior-change-shared-slice-read-key : (t : ℕ) → interior-change-lts.Need-shared-slice-read-key (ic t) (interior-change-at t) interior-change.Post interior-change-Inv-loop interior-change-μ-loop
 interior-change-shared-slice-read-key t c = next-in (c .before .before .before .before .loop .inv .0) (sym (c .before .before .roams-on .ensures) ∙ c .before .if1 .taken)
 
--- src/lib.rt:104:13
 interior-change-seek-child-requires : (t : ℕ) → interior-change-lts.Need-seek-child-requires (ic t) (interior-change-at t) interior-change.Post interior-change-Inv-loop interior-change-μ-loop
 interior-change-seek-child-requires t c κs = (round-at (c .before .before .before .before .before .loop .inv .0), child-in (c .before .before .before .before .before .loop .inv .0) (sym (c .before .before .before .roams-on .ensures) ∙ c .before .before .if1 .taken))
 
--- src/lib.rt:105:13
 interior-change-row-at-requires : (t : ℕ) → interior-change-lts.Need-row-at-requires (ic t) (interior-change-at t) interior-change.Post interior-change-Inv-loop interior-change-μ-loop
 interior-change-row-at-requires t c κs =
     let g = round-at (c .before .before .before .before .before .before .before .loop .inv .0) in
     record { held = g .held; slot = g .slot; within = omega (arith, c .before .seek-child .ensures .within) }
 
--- src/lib.rt:106:13
 interior-change-child-of-requires : (t : ℕ) → interior-change-lts.Need-child-of-requires (ic t) (interior-change-at t) interior-change.Post interior-change-Inv-loop interior-change-μ-loop
 interior-change-child-of-requires t c κs = tt
 
--- src/lib.rt:107:13
 interior-change-ceiling-for-requires : (t : ℕ) → interior-change-lts.Need-ceiling-for-requires (ic t) (interior-change-at t) interior-change.Post interior-change-Inv-loop interior-change-μ-loop
 interior-change-ceiling-for-requires t c κs = tt
 
--- src/lib.rt:108:13
 interior-change-node-change-requires : (t : ℕ) → interior-change-lts.Need-node-change-requires (ic t) (interior-change-at t) interior-change.Post interior-change-Inv-loop interior-change-μ-loop
 interior-change-node-change-requires t c κs = (
   omega (arith, c .before .before .before .before .before .before .before .before .before .before .before .before .before .before .before .before .pre .0),
   child-call (round (c .before .before .before .before .before .before .before .before .before .before .before .loop .inv .0) (sym (c .before .before .before .before .before .before .before .before .before .roams-on .ensures) ∙ c .before .before .before .before .before .before .before .before .if1 .taken)) (c .before .before .before .before .before .seek-child .ensures) (c .before .before .before .row-at .ensures) (c .before .before .child-of .ensures) (c .before .ceiling-for .ensures),
 )
 
--- src/lib.rt:123:13
 interior-change-settle-child-requires : (t : ℕ) → interior-change-lts.Need-settle-child-requires (ic t) (interior-change-at t) interior-change.Post interior-change-Inv-loop interior-change-μ-loop
 interior-change-settle-child-requires t c κs =
     pending (round (c .before .before .before .before .before .before .before .before .before .before .before .before .before .before .before .loop .inv .0) (sym (c .before .before .before .before .before .before .before .before .before .before .before .before .before .roams-on .ensures) ∙ c .before .before .before .before .before .before .before .before .before .before .before .before .if1 .taken)) (c .before .before .before .before .before .before .before .before .before .seek-child .ensures) (c .before .before .before .before .before .before .before .row-at .ensures) (c .before .before .before .before .before .before .child-of .ensures) (c .before .before .before .before .before .ceiling-for .ensures) (c .before .before .before .node-change .ensures)
 
--- src/lib.rt:126:9
 interior-change-changed-by-requires : (t : ℕ) → interior-change-lts.Need-changed-by-requires (ic t) (interior-change-at t) interior-change.Post interior-change-Inv-loop interior-change-μ-loop
 interior-change-changed-by-requires t c κs = tt
 
--- src/lib.rt:102:5
 interior-change-loop-less : (t : ℕ) → interior-change-lts.Need-loop-less (ic t) (interior-change-at t) interior-change.Post interior-change-Inv-loop interior-change-μ-loop
 interior-change-loop-less t c =
     omega (
@@ -159,62 +147,50 @@ interior-change-loop-less t c =
       round-less (round (c .before .before .before .before .before .before .before .before .before .before .before .before .before .before .before .before .before .before .before .before .loop .inv .0) (sym (c .before .before .before .before .before .before .before .before .before .before .before .before .before .before .before .before .before .before .roams-on .ensures) ∙ c .before .before .before .before .before .before .before .before .before .before .before .before .before .before .before .before .before .if1 .taken)) (c .before .before .before .before .before .before .before .before .before .before .before .before .before .before .seek-child .ensures) (c .before .before .before .before .before .before .before .before .before .before .before .before .row-at .ensures) (c .before .before .before .before .before .before .before .before .before .before .before .child-of .ensures) (c .before .before .before .before .before .before .before .before .before .before .ceiling-for .ensures) (c .before .before .before .before .before .before .before .before .node-change .ensures) (c .before .before .before .before .settle-child .ensures),
     )
 
--- src/lib.rt:102:5
 interior-change-loop-again : (t : ℕ) → interior-change-lts.Need-loop-again (ic t) (interior-change-at t) interior-change.Post interior-change-Inv-loop interior-change-μ-loop
 interior-change-loop-again t c = (
   round-again (round (c .before .before .before .before .before .before .before .before .before .before .before .before .before .before .before .before .before .before .before .before .loop .inv .0) (sym (c .before .before .before .before .before .before .before .before .before .before .before .before .before .before .before .before .before .before .roams-on .ensures) ∙ c .before .before .before .before .before .before .before .before .before .before .before .before .before .before .before .before .before .if1 .taken)) (c .before .before .before .before .before .before .before .before .before .before .before .before .before .before .seek-child .ensures) (c .before .before .before .before .before .before .before .before .before .before .before .before .row-at .ensures) (c .before .before .before .before .before .before .before .before .before .before .before .child-of .ensures) (c .before .before .before .before .before .before .before .before .before .before .ceiling-for .ensures) (c .before .before .before .before .before .before .before .before .node-change .ensures) (c .before .before .before .before .settle-child .ensures) (c .before .changed-by .ensures),
   c .before .before .before .before .settle-child .kept .0 ∙ c .before .before .before .before .before .before .before .before .node-change .kept .0 ∙ c .before .before .before .before .before .before .before .before .before .before .before .before .before .before .before .before .before .before .before .before .loop .inv .1,
 )
 
--- src/lib.rt:131:9
 interior-change-count-requires : (t : ℕ) → interior-change-lts.Need-count-requires (ic t) (interior-change-at t) interior-change.Post interior-change-Inv-loop interior-change-μ-loop
 interior-change-count-requires t c κs = round-at (c .before .before .before .before .loop .inv .0)
 
--- src/lib.rt:132:9
 interior-change-result-of-requires : (t : ℕ) → interior-change-lts.Need-result-of-requires (ic t) (interior-change-at t) interior-change.Post interior-change-Inv-loop interior-change-μ-loop
 interior-change-result-of-requires t c κs = tt
 
--- src/lib.rt:80:1
 interior-change-same-length : (t : ℕ) → interior-change-lts.Need-same-length (ic t) (interior-change-at t) interior-change.Post interior-change-Inv-loop interior-change-μ-loop
 interior-change-same-length t c = c .before .before .before .before .before .before .loop .inv .1
 
--- src/lib.rt:80:1
 interior-change-returns : (t : ℕ) → interior-change-lts.Need-returns (ic t) (interior-change-at t) interior-change.Post interior-change-Inv-loop interior-change-μ-loop
 interior-change-returns t c =
     round-end (c .before .before .before .before .before .before .loop .inv .0) (c .result-of .result) (sym (c .before .before .before .before .roams-on .ensures) ∙ c .before .before .before .if1 .left) (c .before .count .ensures .is) (c .result-of .ensures)
 
--- src/lib.rt:48:9
 node-change-leaf-change-requires : (t : ℕ) → node-change-lts.Need-leaf-change-requires (nc t) (node-change-at t) node-change.Post
 node-change-leaf-change-requires t c κs =
     let a = c .before .before .before .before .before .before .args in
     subst (λ (n : ℕ). Call (a .st) (words (a .pool .now)) n (a .s) (a .op) (a .places .now) (a .sizes .now) (a .keys .now) (a .at) (a .ceiling) (a .counts) (a .low)) (c .before .if1 .taken) (c .before .before .before .before .before .before .pre .1)
 
--- src/lib.rt:48:9
 node-change-same-length : (t : ℕ) → node-change-lts.Need-same-length (nc t) (node-change-at t) node-change.Post
 node-change-same-length t c = search needs
 
--- src/lib.rt:48:9
 node-change-returns : (t : ℕ) → node-change-lts.Need-returns (nc t) (node-change-at t) node-change.Post
 node-change-returns t c =
     let a = c .before .before .before .before .before .before .before .before .before .args in
     subst (λ (n : ℕ). Came (a .st) (words (a .pool .now)) (words (c .before .before .leaf-change .last .0)) n (a .s) (a .op) (a .places .now) (a .sizes .now) (a .keys .now) (a .at) (a .ceiling) (a .counts) (c .before .before .leaf-change .result)) (sym (c .before .before .before .before .if1 .taken)) (c .before .before .leaf-change .ensures)
 
--- src/lib.rt:65:9
 node-change-sub-interior-change : (t : ℕ) → node-change-lts.Need-sub-interior-change (nc t) (node-change-at t) node-change.Post
 node-change-sub-interior-change t c = omega (arith, c .before .if1 .left)
 
--- src/lib.rt:62:5
 node-change-interior-change-requires : (t : ℕ) → node-change-lts.Need-interior-change-requires (nc t) (node-change-at t) node-change.Post
 node-change-interior-change-requires t c κs =
     let a = c .before .before .before .before .before .before .args in
     let e : a .height ≡ suc (a .height - 1) = omega (arith, c .before .if1 .left) in
     (omega (arith, c .before .before .before .before .before .before .pre .0), subst (λ (n : ℕ). Call (a .st) (words (a .pool .now)) n (a .s) (a .op) (a .places .now) (a .sizes .now) (a .keys .now) (a .at) (a .ceiling) (a .counts) (a .low)) e (c .before .before .before .before .before .before .pre .1))
 
--- src/lib.rt:30:1
 node-change-same-length-2 : (t : ℕ) → node-change-lts.Need-same-length-2 (nc t) (node-change-at t) node-change.Post
 node-change-same-length-2 t c = search needs
 
--- src/lib.rt:30:1
 node-change-returns-2 : (t : ℕ) → node-change-lts.Need-returns-2 (nc t) (node-change-at t) node-change.Post
 node-change-returns-2 t c =
     let a = c .before .before .before .before .before .before .before .before .before .args in

@@ -5,32 +5,16 @@ use Rattle.batch_node.proofs.Leaves.{leaf-asked, leaf-came}
 use borrow.Author.Needs.{needs}
 use Rattle.batch_node.proofs.leaf_change.Statement.{statement}
 use Rattle.batch_node.proofs.leaf_change.Tie as tie
-use Rattle.batch_node.proofs.leaf_change.Reads as reads
-use Rattle.batch_node.proofs.leaf_change.Lts as lts
-use Rattle.batch_leaf.proofs.take_keys.Reads as take-keys-reads
-use Rattle.batch_seek.proofs.result_of.Reads as result-of-reads
-use Rattle.slots.proofs.count.Reads as count-reads
 
--- src/lib.rt:159:9
 take-keys-requires : tie.Need-take-keys-requires
 take-keys-requires c κs = (leaf-asked (c .before .before .before .before .before .pre), c .before .before .before .before .before .pre .batch)
 
--- src/lib.rt:160:9
 count-requires : tie.Need-count-requires
 count-requires c κs = record { held = c .before .before .before .take-keys .ensures (unusedOf (nodes (c .before .before .before .before .before .before .before .before .before .args .st) (words (c .before .before .before .before .before .before .before .before .before .args .pool .now)))) .did .held; slot = leaf-asked (c .before .before .before .before .before .before .before .before .before .pre) .slot }
 
--- src/lib.rt:161:9
-result-of-requires : tie.Need-result-of-requires
-result-of-requires c κs = search needs
-
--- src/lib.rt:143:1
-same-length : tie.Need-same-length
-same-length c = search needs
-
--- src/lib.rt:143:1
 returns : tie.Need-returns
 returns c = let a = c .before .before .before .before .before .before .before .before .before .before .before .before .args in leaf-came (c .before .before .before .before .before .before .before .before .before .before .before .before .pre) (c .before .before .before .before .before .before .take-keys .ensures (unusedOf (nodes (a .st) (words (a .pool .now))))) (c .before .before .count .ensures .is) (c .before .result-of .result) (c .before .result-of .ensures)
 
 pub leaf-change-spec : {M : Type 1} → statement M
 leaf-change-spec =
-    tie.close (tie.spec take-keys-requires count-requires result-of-requires same-length returns)
+    tie.close (tie.spec take-keys-requires count-requires (λ c κs. search needs) (λ c. search needs) returns)

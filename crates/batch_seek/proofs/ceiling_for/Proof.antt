@@ -2,18 +2,13 @@ use native.Mathlib.Omega.{arith}
 use Rattle.batch_seek.proofs.Seeks.{low-key, low-separator, low-ceiling}
 use Rattle.batch_seek.proofs.ceiling_for.Statement.{statement}
 use Rattle.batch_seek.proofs.ceiling_for.Tie as tie
-use Rattle.batch_seek.proofs.ceiling_for.Reads as reads
-use Rattle.batch_seek.proofs.ceiling_for.Lts as lts
 
--- src/walk.rt:59:9
 returns : tie.Need-returns
 returns c = let a = c .before .args in low-key (a .separator) (a .key) (a .ceiling) (c .if1 .taken)
 
--- src/walk.rt:62:9
 returns-2 : tie.Need-returns-2
 returns-2 c = let a = c .before .before .args in low-separator (a .separator) (a .key) (a .ceiling) (omega (arith, c .before .if1 .left)) (c .if2 .taken)
 
--- src/walk.rt:55:1
 returns-3 : tie.Need-returns-3
 returns-3 c = let a = c .before .before .args in low-ceiling (a .separator) (a .key) (a .ceiling) (omega (arith, c .before .if1 .left)) (omega (arith, c .if2 .left))
 

@@ -3,46 +3,19 @@ use Rattle.batch_seek.proofs.Seeks.{or-false, or-true, or-same}
 use borrow.Author.Needs.{needs}
 use Rattle.batch_seek.proofs.changed_by.Statement.{statement}
 use Rattle.batch_seek.proofs.changed_by.Tie as tie
-use Rattle.batch_seek.proofs.changed_by.Reads as reads
-use Rattle.batch_seek.proofs.changed_by.Lts as lts
 
--- src/walk.rt:72:36
-enum-told : tie.Need-enum-told
-enum-told c = search needs
-
--- src/walk.rt:73:33
-enum-told-2 : tie.Need-enum-told-2
-enum-told-2 c = search needs
-
--- src/walk.rt:74:33
-enum-told-3 : tie.Need-enum-told-3
-enum-told-3 c = search needs
-
--- src/walk.rt:75:34
-enum-told-4 : tie.Need-enum-told-4
-enum-told-4 c = search needs
-
--- src/walk.rt:76:32
-enum-told-5 : tie.Need-enum-told-5
-enum-told-5 c = search needs
-
--- src/walk.rt:68:1
 returns : tie.Need-returns
 returns c = or-false (c .before .before .args .was) ∙ or-same (c .before .before .args .was) (c .enum-told .given .1)
 
--- src/walk.rt:68:1
 returns-2 : tie.Need-returns-2
 returns-2 c = or-true (c .before .before .args .was) ∙ or-same (c .before .before .args .was) (c .enum-told2 .given .1)
 
--- src/walk.rt:68:1
 returns-3 : tie.Need-returns-3
 returns-3 c = or-true (c .before .before .args .was) ∙ or-same (c .before .before .args .was) (c .enum-told3 .given .1)
 
--- src/walk.rt:68:1
 returns-4 : tie.Need-returns-4
 returns-4 c = or-true (c .before .before .args .was) ∙ or-same (c .before .before .args .was) (c .enum-told4 .given .1)
 
--- src/walk.rt:68:1
 returns-5 : tie.Need-returns-5
 returns-5 c = or-true (c .before .before .args .was) ∙ or-same (c .before .before .args .was) (c .enum-told5 .given .1)
 
@@ -50,11 +23,11 @@ pub changed-by-spec : {M : Type 1} → statement M
 changed-by-spec =
     tie.close
     (tie.spec
-    enum-told
-    enum-told-2
-    enum-told-3
-    enum-told-4
-    enum-told-5
+    (λ c. search needs)
+    (λ c. search needs)
+    (λ c. search needs)
+    (λ c. search needs)
+    (λ c. search needs)
     returns
     returns-2
     returns-3

@@ -6,28 +6,15 @@ use Rattle.batch_seek.proofs.Seeks.{is-changed, is-absorb, is-split}
 use borrow.Author.Needs.{needs}
 use Rattle.batch_seek.proofs.result_of.Statement.{statement}
 use Rattle.batch_seek.proofs.result_of.Tie as tie
-use Rattle.batch_seek.proofs.result_of.Reads as reads
-use Rattle.batch_seek.proofs.result_of.Lts as lts
 
--- src/walk.rt:86:13
-returns : tie.Need-returns
-returns c = search needs
-
--- src/walk.rt:89:13
 returns-2 : tie.Need-returns-2
 returns-2 c = let a = c .before .before .before .before .args in is-split (a .st) (a .n) (omega (arith, c .if3 .taken)) ∙ ap (λ (b : Bool). resultOf (a .st) b (a .n)) (sym (c .before .before .before .if1 .taken))
 
--- src/walk.rt:92:13
 returns-3 : tie.Need-returns-3
 returns-3 c = let a = c .before .before .before .before .before .before .args in is-absorb (a .st) (a .n) (c .before .before .before .before .if2 .left) (omega (arith, c .before .before .if3 .left)) (omega (arith, c .if4 .taken)) ∙ ap (λ (b : Bool). resultOf (a .st) b (a .n)) (sym (c .before .before .before .before .before .if1 .taken))
 
--- src/walk.rt:94:9
 returns-4 : tie.Need-returns-4
 returns-4 c = let a = c .before .before .before .before .before .before .args in is-changed (a .st) (a .n) (c .before .before .before .before .if2 .left) (omega (arith, c .before .before .if3 .left)) (omega (arith, c .if4 .left)) ∙ ap (λ (b : Bool). resultOf (a .st) b (a .n)) (sym (c .before .before .before .before .before .if1 .taken))
 
--- src/walk.rt:81:1
-returns-5 : tie.Need-returns-5
-returns-5 c = search needs
-
 pub result-of-spec : {M : Type 1} → statement M
-result-of-spec = tie.close (tie.spec returns returns-2 returns-3 returns-4 returns-5)
+result-of-spec = tie.close (tie.spec (λ c. search needs) returns-2 returns-3 returns-4 (λ c. search needs))

@@ -10,10 +10,6 @@ use Rattle.batch_seek.specs.Seek.{skip}
 use Rattle.batch_seek.proofs.Seeks.{skip-stop, skip-on, skip-last}
 use Rattle.batch_seek.proofs.seek_child.Statement.{statement}
 use Rattle.batch_seek.proofs.seek_child.Tie as tie
-use Rattle.batch_seek.proofs.seek_child.Reads as reads
-use Rattle.batch_seek.proofs.seek_child.Lts as lts
-use Rattle.slots.proofs.count.Reads as count-reads
-use Rattle.slots.proofs.key_at.Reads as key-at-reads
 
 abbrev Inv-loop : tie.InvT-loop
 Inv-loop pool st s from key n i₀ i =
@@ -22,23 +18,12 @@ Inv-loop pool st s from key n i₀ i =
 abbrev μ-loop : tie.MeasureT-loop
 μ-loop pool st s from key n i₀ i = n - i
 
--- src/walk.rt:42:9
-count-requires : tie.Need-count-requires Inv-loop μ-loop
-count-requires c κs = search needs
-
--- src/walk.rt:44:5
 loop-holds : tie.Need-loop-holds Inv-loop μ-loop
 loop-holds c = (omega arith, (c .before .before .pre .1, refl))
 
--- src/walk.rt:44:11
-add-loop : tie.Need-add-loop Inv-loop μ-loop
-add-loop c = search needs
-
--- src/walk.rt:45:13
 key-at-requires : tie.Need-key-at-requires Inv-loop μ-loop
 key-at-requires c κs = record { held = c .before .before .before .before .pre .0 .held; slot = c .before .before .before .before .pre .0 .slot; within = omega (arith, c .before .loop .inv .1 .0) }
 
--- src/walk.rt:47:13
 returns : tie.Need-returns Inv-loop μ-loop
 returns c =
     let a = c .before .before .before .before .before .before .args in
@@ -48,15 +33,9 @@ returns c =
     let k : a .key ≤ keyAt l (at .i) = omega (arith, c .if1 .taken, c .before .key-at .ensures) in
     record { is = omega (arith, at .inv .1 .1, skip-stop (a .key) l (at .i) n k); within = at .inv .1 .0 }
 
--- src/walk.rt:49:9
-add-i : tie.Need-add-i Inv-loop μ-loop
-add-i c = search needs
-
--- src/walk.rt:44:5
 loop-less : tie.Need-loop-less Inv-loop μ-loop
 loop-less c = omega (arith, c .before .before .loop-test .taken)
 
--- src/walk.rt:44:5
 loop-again : tie.Need-loop-again Inv-loop μ-loop
 loop-again c =
     let a = c .before .before .before .before .before .before .args in
@@ -66,7 +45,6 @@ loop-again c =
     let k : keyAt l (at .i) < a .key = omega (arith, c .if1 .left, c .before .key-at .ensures) in
     (omega (arith, at .inv .0), (n, omega (arith, at .inv .1 .1, skip-on (a .key) l (at .i) n k)))
 
--- src/walk.rt:38:1
 returns-2 : tie.Need-returns-2 Inv-loop μ-loop
 returns-2 c =
     let a = c .before .before .before .before .args in
@@ -81,12 +59,12 @@ seek-child-spec =
     (tie.spec
     Inv-loop
     μ-loop
-    count-requires
+    (λ c κs. search needs)
     loop-holds
-    add-loop
+    (λ c. search needs)
     key-at-requires
     returns
-    add-i
+    (λ c. search needs)
     loop-less
     loop-again
     returns-2)

@@ -4,7 +4,7 @@ use borrow.Author.Needs.{needs}
 use Rattle.model.specs.declared.Bound.{Bound}
 use Rattle.model.specs.declared.Direction.{Direction}
 use Rattle.look.specs.Calls.{requestFor}
-use Rattle.model.specs.Look.{Request}
+use Rattle.model.specs.declared.Request.{Request}
 use Rattle.index.specs.Promise.{Scans}
 use Rattle.index_c_given.specs.Given.{boundFor, directionFor, siftFor}
 use Rattle.index_c.proofs.alarm_scan.Statement.{statement}

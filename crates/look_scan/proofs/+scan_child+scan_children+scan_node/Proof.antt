@@ -12,7 +12,7 @@ use Rattle.words.specs.Words.{words}
 use Rattle.slots.specs.Nodes.{nodes, rowsAt}
 use Rattle.model.specs.Look.{openings}
 use Rattle.tree.specs.Bridge.{treeAt}
-use Rattle.look_scan.specs.Walk.{requestOf, placeIn, walkAt, visitAll, ToScan}
+use Rattle.look_scan.specs.Walk.{placeIn, walkAt, visitAll, ToScan}
 use Rattle.tree.proofs.Children.{held-at}
 use Rattle.look_scan.proofs.Rounds.{passed-over, to-child, from-child, Walking, walk-counts, walk-starts, walk-is, walk-ends, walk-stops, walk-enters, walk-leaves, walk-goes-on}
 use Rattle.look_scan.proofs.scan_child.Reads as scan-child
@@ -116,7 +116,7 @@ scan-child-returns-2 t c =
 
 abbrev Inv-loop : scan-children-lts.InvT-loop
 Inv-loop pool st below s q out₀ room n at₀ j₀ out at j =
-    (j ≤ n) × ((length out ≡ length out₀) × Walking (requestOf q) (nodes st (words pool)) below (rowsAt st (words pool) s) room (walkAt out₀ at₀) out at j)
+    (j ≤ n) × ((length out ≡ length out₀) × Walking q (nodes st (words pool)) below (rowsAt st (words pool) s) room (walkAt out₀ at₀) out at j)
 
 abbrev μ-loop : scan-children-lts.MeasureT-loop
 μ-loop pool st below s q out₀ room n at₀ j₀ out at j = n - j
@@ -233,7 +233,7 @@ scan-node-returns : (t : ℕ) → scan-node-lts.Need-returns (node-calls t) (sca
 scan-node-returns t c =
     let a = c .before .before .before .before .before .before .before .args in
     c .before .before .scan-leaf .ensures
-    ∙ ap (λ (h : ℕ). visitAll (a .room) (openings (requestOf (a .q)) h (treeAt (nodes (a .st) (words (a .pool .now))) h (a .s))) (walkAt (a .out .now) (a .w))) (sym (c .before .before .before .before .if1 .taken))
+    ∙ ap (λ (h : ℕ). visitAll (a .room) (openings (a .q) h (treeAt (nodes (a .st) (words (a .pool .now))) h (a .s))) (walkAt (a .out .now) (a .w))) (sym (c .before .before .before .before .if1 .taken))
 
 scan-node-scan-children-requires : (t : ℕ) → scan-node-lts.Need-scan-children-requires (node-calls t) (scan-node-at t) scan-node.Post
 scan-node-scan-children-requires t c κs =
@@ -247,7 +247,7 @@ scan-node-returns-2 t c =
     let a = c .before .before .before .before .before .before .before .args in
     let e : suc (a .height - 1) ≡ a .height = omega (arith, c .before .before .before .before .if1 .left) in
     c .before .before .scan-children .ensures
-    ∙ ap (λ (h : ℕ). visitAll (a .room) (openings (requestOf (a .q)) h (treeAt (nodes (a .st) (words (a .pool .now))) h (a .s))) (walkAt (a .out .now) (a .w))) e
+    ∙ ap (λ (h : ℕ). visitAll (a .room) (openings (a .q) h (treeAt (nodes (a .st) (words (a .pool .now))) h (a .s))) (walkAt (a .out .now) (a .w))) e
 
 pub +scan-child+scan-children+scan-node-spec : {M : Type 1} → statement M
 +scan-child+scan-children+scan-node-spec =

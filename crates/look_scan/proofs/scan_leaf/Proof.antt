@@ -14,7 +14,7 @@ use Rattle.model.specs.Lists.{keep}
 use Rattle.model.specs.Look.{due}
 use Rattle.tree.specs.Bridge.{entryOf}
 use Rattle.look_output.specs.Output.{page, enlistAll}
-use Rattle.look_scan.specs.Walk.{requestOf, placeIn}
+use Rattle.look_scan.specs.Walk.{placeIn}
 use Rattle.look_output.proofs.Outputs.{ended}
 use Rattle.tree.proofs.Children.{held-at}
 use Rattle.look_scan.proofs.Visits.{leafRest, leaf-next, leaf-end, leaf-visited}
@@ -24,7 +24,7 @@ use Rattle.look_scan.proofs.scan_leaf.Tie as tie
 abbrev Inv-loop : tie.InvT-loop
 Inv-loop pool st s q out₀ room n opened l₀ j₀ out l j =
     let rs = rowsAt st (words pool) s in
-    (j ≤ n) × ((length out ≡ length out₀) × (enlistAll room (leafRest (requestOf q) rs j) (page out l) ≡ enlistAll room (leafRest (requestOf q) rs 0) (page out₀ l₀)))
+    (j ≤ n) × ((length out ≡ length out₀) × (enlistAll room (leafRest q rs j) (page out l) ≡ enlistAll room (leafRest q rs 0) (page out₀ l₀)))
 
 abbrev μ-loop : tie.MeasureT-loop
 μ-loop pool st s q out₀ room n opened l₀ j₀ out l j = n - j
@@ -56,7 +56,7 @@ loop-again : tie.Need-loop-again Inv-loop μ-loop
 loop-again c =
     let a = c .before .before .before .before .before .before .before .before .before .before .before .before .before .before .args in
     let rs = rowsAt (a .st) (words (a .pool .now)) (a .s) in
-    let q = requestOf (a .q) in
+    let q = a .q in
     let n = c .before .before .before .before .before .before .before .before .before .before .before .count .ensures .is in
     let at = c .before .before .before .before .before .before .before .before .before .loop in
     let test = c .before .before .before .before .before .before .before .before .loop-test .taken in
@@ -77,7 +77,7 @@ returns c =
     let start = c .before .before .before .before .before .before .before .before in
     let a = start .args in
     let rs = rowsAt (a .st) (words (a .pool .now)) (a .s) in
-    let q = requestOf (a .q) in
+    let q = a .q in
     let at = c .before .before .before .loop in
     let full = ended (a .room) (leafRest q rs (at .j)) (page (at .out) (at .l)) (not-false _ (c .if1 .left)) in
     leaf-visited q (a .room) (a .s) rs (a .out .now) (a .w) (at .out) (at .l) (start .pre .ready .fresh) (sym full ∙ at .inv .1 .1)
@@ -87,7 +87,7 @@ returns-2 c =
     let start = c .before .before .before .before .before .before in
     let a = start .args in
     let rs = rowsAt (a .st) (words (a .pool .now)) (a .s) in
-    let q = requestOf (a .q) in
+    let q = a .q in
     let n = c .before .before .before .count .ensures .is in
     let at = c .before .loop in
     let end = leaf-end q (a .room) rs (page (at .out) (at .l)) (at .j) (omega (arith, n, c .loop-test .left)) in

@@ -2,7 +2,6 @@
 use borrow.Author.Needs.{needs}
 use Rattle.words.specs.Words.{words}
 use Rattle.slots.specs.Nodes.{rowsAt}
-use Rattle.batch_effect.specs.Deeds.{wishOf}
 use Rattle.batch_leaf.proofs.Steps.{ascending, key-able, key-done}
 use Rattle.batch_leaf.proofs.key.change_key.Statement.{statement}
 use Rattle.batch_leaf.proofs.key.change_key.Tie as tie
@@ -21,7 +20,7 @@ perform-requires c κs =
     let sought = stood .before .before in
     let start = sought .before .before .before in
     let a = start .args in
-    key-able (wishOf (a .op) (a .lent)) (start .pre) (decided .decide .result) (sought .search .ensures) (stood .presence-at .ensures)
+    key-able (a .wish) (start .pre) (decided .decide .result) (sought .search .ensures) (stood .presence-at .ensures)
     (decided .decide .ensures) (placed .place-of .ensures)
 
 returns : tie.Need-returns
@@ -33,7 +32,7 @@ returns c =
     let sought = stood .before .before in
     let start = sought .before .before .before in
     let a = start .args in
-    key-done (wishOf (a .op) (a .lent)) (start .pre) (decided .decide .result) (sought .search .ensures) (stood .presence-at .ensures)
+    key-done (a .wish) (start .pre) (decided .decide .result) (sought .search .ensures) (stood .presence-at .ensures)
     (decided .decide .ensures) (placed .place-of .ensures) (done .perform .ensures)
 
 pub change-key-spec : {M : Type 1} → statement M

@@ -1,4 +1,4 @@
--- `perform` meets its contract: each deed but the first is one change of rows. Assumes nothing.
+-- `perform` meets its contract: each effect but the first is one change of rows. Assumes nothing.
 use mathlib.Core.Path.{refl, sym}
 use borrow.Author.Needs.{needs}
 use Rattle.words.specs.Words.{words}
@@ -8,10 +8,10 @@ use Rattle.batch_leaf.proofs.key.perform.Statement.{statement}
 use Rattle.batch_leaf.proofs.key.perform.Tie as tie
 
 insert-row-requires : tie.Need-insert-row-requires
-insert-row-requires c κs = rw (c .before .before .before .d .given .1) at (c .before .before .before .before .before .before .pre)
+insert-row-requires c κs = rw (c .before .before .before .e .given .1) at (c .before .before .before .before .before .before .pre)
 
 set-row-requires : tie.Need-set-row-requires
-set-row-requires c κs = rw (c .before .before .before .d2 .given .1) at (c .before .before .before .before .before .before .pre)
+set-row-requires c κs = rw (c .before .before .before .e2 .given .1) at (c .before .before .before .before .before .before .pre)
 
 remove-row-requires : tie.Need-remove-row-requires
 remove-row-requires c κs = rw (c .before .enum-told2 .given .1) at (c .before .before .before .before .pre)
@@ -29,14 +29,14 @@ returns-2 c =
     let put = c .before .before in
     let a = put .before .before .before .before .before .before .before .args in
     become (a .st) (words (a .pool .now)) (words (put .insert-row .last .0)) _ _ (put .insert-row .ensures)
-    (rw (put .before .before .before .before .d .given .1, put .before .before .wide .ensures))
+    (rw (put .before .before .before .before .e .given .1, put .before .before .wide .ensures))
 
 returns-3 : tie.Need-returns-3
 returns-3 c =
     let put = c .before .before in
     let a = put .before .before .before .before .before .before .before .args in
     become (a .st) (words (a .pool .now)) (words (put .set-row .last .0)) _ _ (put .set-row .ensures)
-    (rw (put .before .before .before .before .d2 .given .1, put .before .before .wide2 .ensures))
+    (rw (put .before .before .before .before .e2 .given .1, put .before .before .wide2 .ensures))
 
 returns-4 : tie.Need-returns-4
 returns-4 c =
