@@ -57,7 +57,8 @@ module _ (ns : List S.Node) (h : ℕ) where
   numbered-append n [] r = let z : n + 0 ≡ n = omega arith in rw z refl
   numbered-append n (x ∷ a) r =
       let m : ℕ = nodesIn h (itemAt ns h x) in
-      let long : passed ns h (x ∷ a) ≡ nodesIn h (itemAt ns h x) + passed ns h a = length-append (slots h (itemAt ns h x)) (concat (map (slots h) (map (itemAt ns h) a))) in
+      let long : passed ns h (x ∷ a) ≡ nodesIn h (itemAt ns h x) + passed ns h a =
+      length-append (slots h (itemAt ns h x)) (concat (map (slots h) (map (itemAt ns h) a))) in
       let e : n + nodesIn h (itemAt ns h x) + passed ns h a ≡ n + passed ns h (x ∷ a) = omega arith in
       ap (entryFor h x n ∷_) (numbered-append (n + m) a r ∙ ap (λ (k : ℕ). numbered (n + m) a ++ (entryFor h r k ∷ [])) e)
 
@@ -150,7 +151,8 @@ module _ (l : List ℕ) (s : SoundPool l) where
       let st = settingsIn l in
       let x = indexOf l in
       let sound : Sound st x = sound-index l s in
-      let same : nodes st (words l) ≡ nodesOf (st .nodes) x = held-nodesOf st x (nodes st (words l)) (length-nodes st (words l)) (sound-holds-index l s) sound in
+      let same : nodes st (words l) ≡ nodesOf (st .nodes) x =
+      held-nodesOf st x (nodes st (words l)) (length-nodes st (words l)) (sound-holds-index l s) sound in
       let many : length (entriesOf x) ≤ 524288 = entries-most st x sound in
       record {
         held = sound-held l s;
@@ -159,19 +161,22 @@ module _ (l : List ℕ) (s : SoundPool l) where
         few = used-few st x sound;
         fit = sound .fit;
         light = omega (arith, many);
-        narrow = λ y. subst (λ (ns : List S.Node). length (nth ns y .rows) ≤ 32) (sym same) (omega (arith, nodesOf-fit st x sound y .few, sound .settings .narrow));
+        narrow =
+            λ y. subst (λ (ns : List S.Node). length (nth ns y .rows) ≤ 32) (sym same) (omega (arith, nodesOf-fit st x sound y .few, sound .settings .narrow));
       }
 
 -- the same of settings and a height that are the pool's own
 module _ (l : List ℕ) (s : SoundPool l) (st : Settings) (h : ℕ) (es : st ≡ settingsIn l) (eh : h ≡ indexOf l .height) where
   pub node-standing : Standing st (words l) h 0
-  node-standing = subst (λ (x : Settings). Standing x (words l) h 0) (sym es) (subst (λ (y : ℕ). Standing (settingsIn l) (words l) y 0) (sym eh) (sound-standing l s))
+  node-standing =
+      subst (λ (x : Settings). Standing x (words l) h 0) (sym es) (subst (λ (y : ℕ). Standing (settingsIn l) (words l) y 0) (sym eh) (sound-standing l s))
 
   own : (i : ℕ) (r : Found) → Finds st (words l) h 0 i r → Finds (settingsIn l) (words l) (indexOf l .height) 0 i r
   own i r f = subst (λ (y : ℕ). Finds (settingsIn l) (words l) y 0 i r) eh (subst (λ (x : Settings). Finds x (words l) h 0 i r) es f)
 
   -- there is no node i
-  pub node-none : (i left : ℕ) (line : List ℕ) → Finds st (words l) h 0 i (Left left) → Writes (writeNode i (length line) (indexOf l)) line (Write.Refused 14) line
+  pub node-none : (i left : ℕ) (line : List ℕ) → Finds st (words l) h 0 i (Left left)
+      → Writes (writeNode i (length line) (indexOf l)) line (Write.Refused 14) line
   node-none i left line f =
       let past : length (framesOf (indexOf l)) ≤ i = omega (arith, frames-long (indexOf l .height) 0 (indexOf l .root), own i (Left left) f) in
       subst (λ (a : Answer (List ℕ)). Writes a line (Write.Refused 14) line) (sym (ap (written (length line)) (elem-past (framesOf (indexOf l)) i past)))
@@ -191,10 +196,13 @@ module _ (l : List ℕ) (s : SoundPool l) (st : Settings) (h : ℕ) (es : st ≡
       let there : getElem? (framesOf (indexOf l)) i ≡ some (frameAt g i (treeAt (nodes st (words l)) g t)) =
       own i (Node t g) f .1 .1 0 ∙ ap (λ (k : ℕ). some (frameAt g k (treeAt (nodes (settingsIn l) (words l)) g t))) z
       ∙ ap (λ (y : Settings). some (frameAt g i (treeAt (nodes y (words l)) g t))) (sym es) in
-      subst (λ (a : Answer (List ℕ)). Writes a line r after) (ap (λ (y : Frame). fitted (length line) (lineOf y)) same ∙ sym (ap (written (length line)) there)) w
+      subst (λ (a : Answer (List ℕ)). Writes a line r after)
+      (ap (λ (y : Frame). fitted (length line) (lineOf y)) same ∙ sym (ap (written (length line)) there)) w
 
-pub contents-few : (st : Settings) (W : List ℕ) (h s i : ℕ) (c : Contents) → Standing st W h s → c ≡ contentsOf (frameAt h i (treeAt (nodes st W) h s)) → c .count ≤ 32
+pub contents-few : (st : Settings) (W : List ℕ) (h s i : ℕ) (c : Contents) → Standing st W h s
+    → c ≡ contentsOf (frameAt h i (treeAt (nodes st W) h s)) → c .count ≤ 32
 contents-few st W h s i c p e =
     let rs = nth (nodes st W) s .rows in
-    let same : c .count ≡ length (numbered (nodes st W) h (i + 1) (nth (nodes st W) s .rows)) = ap (λ (x : Contents). x .count) (e ∙ contents-numbered st W h s i p) in
+    let same : c .count ≡ length (numbered (nodes st W) h (i + 1) (nth (nodes st W) s .rows)) =
+    ap (λ (x : Contents). x .count) (e ∙ contents-numbered st W h s i p) in
     omega (arith, numbered-long (nodes st W) h (i + 1) rs, p .narrow s)

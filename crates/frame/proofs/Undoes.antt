@@ -59,7 +59,8 @@ one-read a r q f g =
 fitted-line : (room : ℕ) (f : Frame) (n : ℕ) → done n ≡ lengthIn (fitted room (lineOf f)) → (fitted room (lineOf f) ≡ done (lineOf f)) × (n ≡ length (lineOf f))
 fitted-line room f n = go (ltb room (length (lineOf f))) refl
   where
-    go : (b : Bool) → ltb room (length (lineOf f)) ≡ b → done n ≡ lengthIn (fitted room (lineOf f)) → (fitted room (lineOf f) ≡ done (lineOf f)) × (n ≡ length (lineOf f))
+    go : (b : Bool) → ltb room (length (lineOf f)) ≡ b → done n ≡ lengthIn (fitted room (lineOf f))
+        → (fitted room (lineOf f) ≡ done (lineOf f)) × (n ≡ length (lineOf f))
     go true e h = absurd (refused-done 16 n (sym (rw e at h)))
     go false e h = let q : done n ≡ done (length (lineOf f)) = rw e at h in (rw e refl, cc)
 
@@ -122,7 +123,8 @@ reads-node p i l₀ l n r sound w g =
     found (x ∷ fs) zero f (one h hs) e = let q : x ≡ f = cc in subst (λ (y : Frame). readLine (lineOf y) ≡ done y) q h
     found (x ∷ fs) (suc i) f (one h hs) e = found fs i f hs e
 
-    go : (fs : List Frame) (i : ℕ) (o : Option Frame) → getElem? fs i ≡ o → All (λ x. readLine (lineOf x) ≡ done x) fs → Writes (written (length l₀) (getElem? fs i)) l₀ (Write.Done n) l
+    go : (fs : List Frame) (i : ℕ) (o : Option Frame) → getElem? fs i ≡ o → All (λ x. readLine (lineOf x) ≡ done x) fs
+        → Writes (written (length l₀) (getElem? fs i)) l₀ (Write.Done n) l
         → (f : Frame) × ((getElem? fs i ≡ some f) × (r ≡ readAs f))
     go fs i O.none e all v = absurd (refused-done 14 n (sym (v .answer ∙ ap (λ (o : Option Frame). lengthIn (written (length l₀) o)) e)))
     go fs i (some f) e all v =

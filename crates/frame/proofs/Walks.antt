@@ -12,7 +12,7 @@ use Rattle.slots_raw.specs.Slots.{blank}
 use Rattle.slots.specs.Nodes.{nodes, nth, At}
 use Rattle.slots.specs.Nodes as S
 use Rattle.model.specs.declared.Settings.{Settings}
-use Rattle.model.specs.Lists.{concat, none, one}
+use Rattle.model.specs.Lists.{concat, none}
 use Rattle.model.specs.Tree.{Tree, entries, slots}
 use Rattle.model.specs.Frame.{Frame, nodesIn, inTurn, framesFrom}
 use Rattle.model.proofs.Lists.{all-head, all-tail, parts-at}
@@ -197,7 +197,8 @@ module _ (st : Settings) (W : List ℕ) where
               let up : m + 1 + passed ns (suc h) (take j rs) + left ≡ m + i = omega arith in
               ap (getElem? (framesFrom (suc h) m (treeAt ns (suc h) s))) next
               ∙ turn-at ns h (m + 1) rs j left (frameAt g (m + i) (treeAt ns g t)) k
-              (subst (λ (x : ℕ). getElem? (framesFrom h (m + 1 + passed ns (suc h) (take j rs)) (treeAt ns h (childOf (getD rs j blank)))) left ≡ some (frameAt g x (treeAt ns g t))) up
+              (subst (λ (x : ℕ). getElem? (framesFrom h (m + 1 + passed ns (suc h) (take j rs)) (treeAt ns h (childOf (getD rs j blank)))) left
+              ≡ some (frameAt g x (treeAt ns g t))) up
               (q .1 .1 (m + 1 + passed ns (suc h) (take j rs)))),
         ),
       )

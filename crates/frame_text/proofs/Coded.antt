@@ -162,7 +162,8 @@ pub spelled-kind : (k j : Kind) (l m : List ℕ) (a i : ℕ) (e : FrameEntry) �
     → m ≡ spelled l (startOf k i) (widthOf k) (codeOf k e)
 spelled-kind k j l m a i e p q h = rw (← q, p) h
 
-pub entry-kind : (k j : Kind) (bs : List ℕ) (a i : ℕ) (r : FrameEntry) → k ≡ j → a ≡ startOf k i → r ≡ entryIn j (drop a bs) → r ≡ entryIn k (drop (startOf k i) bs)
+pub entry-kind : (k j : Kind) (bs : List ℕ) (a i : ℕ) (r : FrameEntry) → k ≡ j → a ≡ startOf k i → r ≡ entryIn j (drop a bs)
+    → r ≡ entryIn k (drop (startOf k i) bs)
 entry-kind k j bs a i r p q h = rw (← q, p) h
 
 pub line-long : (c : Contents) → length (lineOf (frameOf c)) ≡ 2 * startOf (c .kind) (c .count)
@@ -177,10 +178,12 @@ pub put-more : (k : Kind) (es : List FrameEntry) (i : ℕ) (l m o : List ℕ) �
 put-more k es i l m o room p q =
     let e : (i + 1) * widthOf k ≡ i * widthOf k + widthOf k = omega (arith, suc-mul i (widthOf k), ap (_* widthOf k) (add-one i)) in
     rw (e, codes-more k es i)
-    (then-on l m o 1 (i * widthOf k) (widthOf k) (codes k (first i es)) (codeOf k (getD es i noEntry)) (omega arith) (codes-first k i es) p (rw (← start-rest k i) q))
+    (then-on l m o 1 (i * widthOf k) (widthOf k) (codes k (first i es)) (codeOf k (getD es i noEntry)) (omega arith) (codes-first k i es) p
+    (rw (← start-rest k i) q))
 
 -- header and entries are the line
-pub put-all : (c : Contents) (l m o : List ℕ) → m ≡ spelled l 0 1 (bytes 1 (headerOf (c .kind))) → o ≡ spelled m 1 (c .count * widthOf (c .kind)) (codes (c .kind) (first (c .count) (c .entries)))
+pub put-all : (c : Contents) (l m o : List ℕ) → m ≡ spelled l 0 1 (bytes 1 (headerOf (c .kind)))
+    → o ≡ spelled m 1 (c .count * widthOf (c .kind)) (codes (c .kind) (first (c .count) (c .entries)))
     → o ≡ lineOf (frameOf c) ++ drop (length (lineOf (frameOf c))) l
 put-all c l m o p q =
     let k = c .kind in

@@ -67,7 +67,8 @@ spelled-before l a n b bs h =
     (set-before l (2 * a) (suc (2 * n)) (digit (b % 16) ∷ hex bs) (digit (b / 16)) (omega arith))
 
 -- more bytes behind
-pub spelled-on : (l : List ℕ) (a n m : ℕ) (x y : List ℕ) → length x ≡ n → 2 * a ≤ length l → spelled (spelled l a n x) (a + n) m y ≡ spelled l a (n + m) (x ++ y)
+pub spelled-on : (l : List ℕ) (a n m : ℕ) (x y : List ℕ) → length x ≡ n → 2 * a ≤ length l
+    → spelled (spelled l a n x) (a + n) m y ≡ spelled l a (n + m) (x ++ y)
 spelled-on l a n m x y e h =
     let p : 2 * (a + n) ≡ 2 * a + 2 * n = omega arith in
     let q : 2 * (n + m) ≡ 2 * n + 2 * m = omega arith in
@@ -87,7 +88,8 @@ spelled-whole l n bs e = let q : length (hex bs) ≡ 2 * n = omega (arith, hex-l
 -- where the number is written from its byte k on, one byte more
 module _ (l : List ℕ) (a value w k : ℕ) (h : k < w) (room : 2 * (a + w) ≤ length l) where
   pub number-more : (rest : ℕ) → rest ≡ value / 256 ^ (w - (k + 1))
-      → set (set (spelled l (a + (k + 1)) (w - (k + 1)) (bytes (w - (k + 1)) value)) (2 * (a + k) + 1) (digit (rest % 256 % 16))) (2 * (a + k)) (digit (rest % 256 / 16))
+      → set (set (spelled l (a + (k + 1)) (w - (k + 1)) (bytes (w - (k + 1)) value)) (2 * (a + k) + 1) (digit (rest % 256 % 16)))
+      (2 * (a + k)) (digit (rest % 256 / 16))
       ≡ spelled l (a + k) (w - k) (bytes (w - k) value)
   number-more rest e =
       let p : a + (k + 1) ≡ a + k + 1 = omega arith in

@@ -42,7 +42,8 @@ keys-long c =
 pub write-many : (l : List ℕ) (c : Contents) → 32 < c .count → Writes (writeFrame (length l) (frameOf c)) l (Write.Refused 11) l
 write-many l c h = rw (lt-ltb 32 (length (keysOf (frameOf c))) (omega (arith, keys-long c))) (record { answer = refl; line = refl })
 
-pub write-fall : (l : List ℕ) (c : Contents) → c .count ≤ 32 → rising (keysOf (frameOf c)) ≡ false → Writes (writeFrame (length l) (frameOf c)) l (Write.Refused 12) l
+pub write-fall : (l : List ℕ) (c : Contents) → c .count ≤ 32 → rising (keysOf (frameOf c)) ≡ false
+    → Writes (writeFrame (length l) (frameOf c)) l (Write.Refused 12) l
 write-fall l c h e = rw (le-ltb 32 (length (keysOf (frameOf c))) (omega (arith, keys-long c)), e) (record { answer = refl; line = refl })
 
 pub write-on : (room : ℕ) (c : Contents) → c .count ≤ 32 → rising (keysOf (frameOf c)) ≡ true → writeFrame room (frameOf c) ≡ fitted room (lineOf (frameOf c))
@@ -105,7 +106,8 @@ read-done k bs n c e h g =
     }))
 
 -- the keys of what was read
-pub keys-read : (k : Kind) (bs : List ℕ) (n : ℕ) (c : Contents) → n ≡ length bs / widthOf k → c ≡ held k (entriesIn k n bs) → keysOf (frameOf c) ≡ keysOf (framedIn k bs)
+pub keys-read : (k : Kind) (bs : List ℕ) (n : ℕ) (c : Contents) → n ≡ length bs / widthOf k → c ≡ held k (entriesIn k n bs)
+    → keysOf (frameOf c) ≡ keysOf (framedIn k bs)
 keys-read k bs n c e h = ap keysOf (ap frameOf h ∙ frame-held k (entriesIn k n bs) ∙ ap (λ (m : ℕ). framed k (entriesIn k m bs)) e)
 
 -- READING A LINE

@@ -12,8 +12,6 @@ use Rattle.frame_text.specs.declared.FrameEntry.{FrameEntry}
 use Rattle.frame_text.proofs.Coded.{start-up, padded-more, entries-long, entries-more}
 use Rattle.frame_read.proofs.entries_in.Statement.{statement}
 use Rattle.frame_read.proofs.entries_in.Tie as tie
-use Rattle.frame_read.proofs.entries_in.Reads as reads
-use Rattle.frame_read.proofs.entries_in.Lts as lts
 
 abbrev Inv-loop : tie.InvT-loop
 Inv-loop line kind n entries₀ i₀ entries i = (i ≤ n) × (entries ≡ padded (entriesIn kind i (drop 1 (pairs line))))
@@ -21,37 +19,14 @@ Inv-loop line kind n entries₀ i₀ entries i = (i ≤ n) × (entries ≡ padde
 abbrev μ-loop : tie.MeasureT-loop
 μ-loop line kind n entries₀ i₀ entries i = n - i
 
--- src/reader.rt:94:24
-no-entry-requires : tie.Need-no-entry-requires Inv-loop μ-loop
-no-entry-requires c κs = search needs
-
--- src/reader.rt:96:5
 loop-holds : tie.Need-loop-holds Inv-loop μ-loop
 loop-holds c = (omega arith, ap (λ (e : FrameEntry). replicate 32 e) (c .no-entry .ensures))
 
--- src/reader.rt:97:22
 entry-at-requires : tie.Need-entry-at-requires Inv-loop μ-loop
 entry-at-requires c κs =
     let s = c .before .before .before .before in
     (s .pre .0, (omega arith, omega (arith, start-up (s .args .kind) (c .before .loop .i + 1) (s .args .n) (omega arith))))
 
--- src/reader.rt:97:9
-mul-entries : tie.Need-mul-entries Inv-loop μ-loop
-mul-entries c = search needs
-
--- src/reader.rt:97:9
-array-set-from-entries : tie.Need-array-set-from-entries Inv-loop μ-loop
-array-set-from-entries c = search needs
-
--- src/reader.rt:98:9
-add-i : tie.Need-add-i Inv-loop μ-loop
-add-i c = search needs
-
--- src/reader.rt:96:5
-loop-less : tie.Need-loop-less Inv-loop μ-loop
-loop-less c = search needs
-
--- src/reader.rt:96:5
 loop-again : tie.Need-loop-again Inv-loop μ-loop
 loop-again c =
     let s = c .before .before .before .before .before .args in
@@ -64,7 +39,6 @@ loop-again c =
           ∙ ap padded (sym (entries-more (s .kind) (h .i) bs)),
     )
 
--- src/reader.rt:88:1
 returns : tie.Need-returns Inv-loop μ-loop
 returns c =
     let s = c .before .before .before .before .args in
@@ -81,12 +55,12 @@ entries-in-spec =
     (tie.spec
     Inv-loop
     μ-loop
-    no-entry-requires
+    (λ c κs. search needs)
     loop-holds
     entry-at-requires
-    mul-entries
-    array-set-from-entries
-    add-i
-    loop-less
+    (λ c. search needs)
+    (λ c. search needs)
+    (λ c. search needs)
+    (λ c. search needs)
     loop-again
     returns)

@@ -6,14 +6,7 @@ use Rattle.frame_text.specs.declared.FrameEntry.{FrameEntry}
 use Rattle.frame_text.specs.declared.Kind.the-variants.{Leaf}
 use Rattle.frame_read.proofs.refusal.Statement.{statement}
 use Rattle.frame_read.proofs.refusal.Tie as tie
-use Rattle.frame_read.proofs.refusal.Reads as reads
-use Rattle.frame_read.proofs.refusal.Lts as lts
 
--- src/reader.rt:52:20
-no-entry-requires : tie.Need-no-entry-requires
-no-entry-requires c κs = search needs
-
--- src/reader.rt:49:1
 returns : tie.Need-returns
 returns c =
     record {
@@ -22,4 +15,4 @@ returns c =
     }
 
 pub refusal-spec : {M : Type 1} → statement M
-refusal-spec = tie.close (tie.spec no-entry-requires returns)
+refusal-spec = tie.close (tie.spec (λ c κs. search needs) returns)

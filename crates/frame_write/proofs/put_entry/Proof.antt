@@ -9,18 +9,7 @@ use Rattle.frame_text.specs.declared.Kind.{Kind}
 use Rattle.frame_text.proofs.Coded.{spelled-kind}
 use Rattle.frame_write.proofs.put_entry.Statement.{statement}
 use Rattle.frame_write.proofs.put_entry.Tie as tie
-use Rattle.frame_write.proofs.put_entry.Reads as reads
-use Rattle.frame_write.proofs.put_entry.Lts as lts
 
--- src/writer.rt:59:9
-start-of-requires : tie.Need-start-of-requires
-start-of-requires c κs = search needs
-
--- src/writer.rt:61:38
-enum-told : tie.Need-enum-told
-enum-told c = search needs
-
--- src/writer.rt:61:23
 put-leaf-entry-requires : tie.Need-put-leaf-entry-requires
 put-leaf-entry-requires c κs =
     let a = c .before .before .before .before .before .args in
@@ -28,11 +17,6 @@ put-leaf-entry-requires c κs =
     let next = ap (λ (k : Kind). startOf k (a .i + 1)) (c .before .enum-told .given .1) in
     omega (arith, now, next)
 
--- src/writer.rt:62:38
-enum-told-2 : tie.Need-enum-told-2
-enum-told-2 c = search needs
-
--- src/writer.rt:62:27
 put-branch-requires : tie.Need-put-branch-requires
 put-branch-requires c κs =
     let a = c .before .before .before .before .before .args in
@@ -40,36 +24,34 @@ put-branch-requires c κs =
     let next = ap (λ (k : Kind). startOf k (a .i + 1)) (c .before .enum-told2 .given .1) in
     omega (arith, now, next)
 
--- src/writer.rt:54:1
-same-length : tie.Need-same-length
-same-length c = search needs
-
--- src/writer.rt:54:1
 returns : tie.Need-returns
 returns c =
-    spelled-kind (c .before .before .before .before .before .before .before .before .args .kind) Leaf (c .before .before .before .before .before .before .before .before .args .line .now) (c .before .before .put-leaf-entry .last .0) (c .before .before .before .before .before .before .start-of .result) (c .before .before .before .before .before .before .before .before .args .i) (c .before .before .before .before .before .before .before .before .args .e) (c .before .before .before .before .enum-told .given .1)
-    (c .before .before .before .before .before .before .start-of .ensures .0) (c .before .before .put-leaf-entry .ensures)
+    let put = c .before .before in
+    let told = put .before .before in
+    let begun = told .before .before in
+    let a = begun .before .before .args in
+    spelled-kind (a .kind) Leaf (a .line .now) (put .put-leaf-entry .last .0) (begun .start-of .result) (a .i) (a .e) (told .enum-told .given .1)
+    (begun .start-of .ensures .0) (put .put-leaf-entry .ensures)
 
--- src/writer.rt:54:1
-same-length-2 : tie.Need-same-length-2
-same-length-2 c = search needs
-
--- src/writer.rt:54:1
 returns-2 : tie.Need-returns-2
 returns-2 c =
-    spelled-kind (c .before .before .before .before .before .before .before .before .args .kind) Interior (c .before .before .before .before .before .before .before .before .args .line .now) (c .before .before .put-branch .last .0) (c .before .before .before .before .before .before .start-of .result) (c .before .before .before .before .before .before .before .before .args .i) (c .before .before .before .before .before .before .before .before .args .e) (c .before .before .before .before .enum-told2 .given .1)
-    (c .before .before .before .before .before .before .start-of .ensures .0) (c .before .before .put-branch .ensures)
+    let put = c .before .before in
+    let told = put .before .before in
+    let begun = told .before .before in
+    let a = begun .before .before .args in
+    spelled-kind (a .kind) Interior (a .line .now) (put .put-branch .last .0) (begun .start-of .result) (a .i) (a .e) (told .enum-told2 .given .1)
+    (begun .start-of .ensures .0) (put .put-branch .ensures)
 
 pub put-entry-spec : {M : Type 1} → statement M
 put-entry-spec =
     tie.close
     (tie.spec
-    start-of-requires
-    enum-told
+    (λ c κs. search needs)
+    (λ c. search needs)
     put-leaf-entry-requires
-    enum-told-2
+    (λ c. search needs)
     put-branch-requires
-    same-length
+    (λ c. search needs)
     returns
-    same-length-2
+    (λ c. search needs)
     returns-2)

@@ -10,10 +10,7 @@ use Rattle.frame.proofs.Noded.{under-leaf}
 use Rattle.frame.proofs.Walks.{nodes-child}
 use Rattle.frame.proofs.node.nodes_under.Statement.{statement}
 use Rattle.frame.proofs.node.nodes_under.Tie as tie
-use Rattle.frame.proofs.node.nodes_under.Reads as reads
-use Rattle.frame.proofs.node.nodes_under.Lts as lts
 
--- src/node.rt:100:9
 returns : tie.Need-returns
 returns c =
     let a = c .before .before .args in
@@ -22,19 +19,6 @@ returns c =
     let rs = nth ns (a .s) .rows in
     under-leaf ns (a .height) (getD rs (a .j) blank) (c .if1 .taken)
 
--- src/node.rt:102:9
-child-at-requires : tie.Need-child-at-requires
-child-at-requires c κs = search needs
-
--- src/node.rt:103:24
-sub-nodes-in : tie.Need-sub-nodes-in
-sub-nodes-in c = search needs
-
--- src/node.rt:103:5
-nodes-in-requires : tie.Need-nodes-in-requires
-nodes-in-requires c κs = search needs
-
--- src/node.rt:94:1
 returns-2 : tie.Need-returns-2
 returns-2 c =
     let a = c .before .before .before .before .args in
@@ -45,4 +29,4 @@ returns-2 c =
 
 pub nodes-under-spec : {M : Type 1} → statement M
 nodes-under-spec =
-    tie.close (tie.spec returns child-at-requires sub-nodes-in nodes-in-requires returns-2)
+    tie.close (tie.spec returns (λ c κs. search needs) (λ c. search needs) (λ c κs. search needs) returns-2)

@@ -39,20 +39,13 @@ find-Inv-loop pool st height s i left₀ n j₀ left j =
 abbrev find-μ-loop : find-lts.MeasureT-loop
 find-μ-loop pool st height s i left₀ n j₀ left j = n - j
 
--- src/walk.rt:20:9
 find-returns : (t : ℕ) → find-lts.Need-returns (callees t) (find-at t) find.Post find-Inv-loop find-μ-loop
 find-returns t c =
     let a = c .before .before .args in
     let W = words (a .pool .now) in
-    let ns = nodes (a .st) W in
-    let rs = nth ns (a .s) .rows in
-    subst (λ (x : ℕ). Finds (a .st) W (a .height) (a .s) x (Node (a .s) (a .height))) (sym (c .if1 .taken)) (found-here (a .st) W (a .height) (a .s) (c .before .before .pre .1))
+    subst (λ (x : ℕ). Finds (a .st) W (a .height) (a .s) x (Node (a .s) (a .height))) (sym (c .if1 .taken))
+    (found-here (a .st) W (a .height) (a .s) (c .before .before .pre .1))
 
--- src/walk.rt:22:20
-find-sub-left : (t : ℕ) → find-lts.Need-sub-left (callees t) (find-at t) find.Post find-Inv-loop find-μ-loop
-find-sub-left t c = search needs
-
--- src/walk.rt:24:9
 find-returns-2 : (t : ℕ) → find-lts.Need-returns-2 (callees t) (find-at t) find.Post find-Inv-loop find-μ-loop
 find-returns-2 t c =
     let a = c .before .before .before .args in
@@ -61,76 +54,60 @@ find-returns-2 t c =
     let rs = nth ns (a .s) .rows in
     found-none (a .st) W (a .height) (a .s) (a .i) (a .i - 1) (omega (arith, passed-leaf ns (a .height) rs (c .if2 .taken)))
 
--- src/walk.rt:26:9
 find-count-requires : (t : ℕ) → find-lts.Need-count-requires (callees t) (find-at t) find.Post find-Inv-loop find-μ-loop
-find-count-requires t c κs = standing-at (c .before .before .before .args .st) (words (c .before .before .before .args .pool .now)) (c .before .before .before .args .height) (c .before .before .before .args .s) (c .before .before .before .pre .1)
+find-count-requires t c κs =
+    let start = c .before .before .before in
+    standing-at (start .args .st) (words (start .args .pool .now)) (start .args .height) (start .args .s) (start .pre .1)
 
--- src/walk.rt:28:5
 find-loop-holds : (t : ℕ) → find-lts.Need-loop-holds (callees t) (find-at t) find.Post find-Inv-loop find-μ-loop
 find-loop-holds t c = (omega arith, omega arith)
 
--- src/walk.rt:29:13
 find-child-at-requires : (t : ℕ) → find-lts.Need-child-at-requires (callees t) (find-at t) find.Post find-Inv-loop find-μ-loop
 find-child-at-requires t c κs = (c .before .before .before .before .before .before .pre .1, (omega arith, omega arith))
 
--- src/walk.rt:30:30
-find-sub-find : (t : ℕ) → find-lts.Need-sub-find (callees t) (find-at t) find.Post find-Inv-loop find-μ-loop
-find-sub-find t c = search needs
-
--- src/walk.rt:30:15
 find-find-requires : (t : ℕ) → find-lts.Need-find-requires (callees t) (find-at t) find.Post find-Inv-loop find-μ-loop
 find-find-requires t c κs = (omega (arith, c .before .before .before .before .before .before .before .pre .0), c .child-at .ensures .1)
 
--- src/walk.rt:31:25
-find-enum-known-t : (t : ℕ) → find-lts.Need-enum-known-t (callees t) (find-at t) find.Post find-Inv-loop find-μ-loop
-find-enum-known-t t c = search needs
-
--- src/walk.rt:31:34
 find-returns-3 : (t : ℕ) → find-lts.Need-returns-3 (callees t) (find-at t) find.Post find-Inv-loop find-μ-loop
 find-returns-3 t c =
-    let a = c .before .before .before .before .before .before .before .before .before .before .before .args in
+    let found = c .before in
+    let sought = found .before .before in
+    let down = sought .before in
+    let loop = down .before .before in
+    let start = loop .before .before .before .before .before in
+    let a = start .args in
     let W = words (a .pool .now) in
-    let ns = nodes (a .st) W in
-    let rs = nth ns (a .s) .rows in
-    let h = c .before .before .before .before .before .before .loop in
-    let kid = c .before .before .before .before .child-at in
-    found-below (a .st) W (a .height) (a .s) (a .i) (h .j) (h .left) (kid .result) (c .before .t .given .0 .0) (c .before .t .given .0 .1 .0) (omega arith) (omega arith) (kid .ensures .0) (h .inv .1)
-    (subst (λ (x : Found). Finds (a .st) W (a .height - 1) (kid .result) (h .left) x) (c .before .t .given .1) (c .before .before .before .find .ensures))
+    let h = loop .loop in
+    let kid = down .child-at in
+    found-below (a .st) W (a .height) (a .s) (a .i) (h .j) (h .left) (kid .result) (found .t .given .0 .0) (found .t .given .0 .1 .0) (omega arith)
+    (omega arith) (kid .ensures .0) (h .inv .1)
+    (subst (λ (x : Found). Finds (a .st) W (a .height - 1) (kid .result) (h .left) x) (found .t .given .1) (sought .find .ensures))
 
--- src/walk.rt:32:25
-find-enum-known-k : (t : ℕ) → find-lts.Need-enum-known-k (callees t) (find-at t) find.Post find-Inv-loop find-μ-loop
-find-enum-known-k t c = search needs
-
--- src/walk.rt:34:9
-find-add-j : (t : ℕ) → find-lts.Need-add-j (callees t) (find-at t) find.Post find-Inv-loop find-μ-loop
-find-add-j t c = search needs
-
--- src/walk.rt:28:5
-find-loop-less : (t : ℕ) → find-lts.Need-loop-less (callees t) (find-at t) find.Post find-Inv-loop find-μ-loop
-find-loop-less t c = search needs
-
--- src/walk.rt:28:5
 find-loop-again : (t : ℕ) → find-lts.Need-loop-again (callees t) (find-at t) find.Post find-Inv-loop find-μ-loop
 find-loop-again t c =
-    let a = c .before .before .before .before .before .before .before .before .before .before .before .args in
+    let passed = c .before in
+    let sought = passed .before .before in
+    let down = sought .before in
+    let loop = down .before .before in
+    let start = loop .before .before .before .before .before in
+    let a = start .args in
     let W = words (a .pool .now) in
-    let ns = nodes (a .st) W in
-    let rs = nth ns (a .s) .rows in
-    let h = c .before .before .before .before .before .before .loop in
-    let kid = c .before .before .before .before .child-at in (
+    let h = loop .loop in
+    let kid = down .child-at in (
       omega arith,
-      passed-below (a .st) W (a .height) (a .s) (a .i) (h .j) (h .left) (kid .result) (c .before .k .given .0 .0) (omega arith) (omega arith) (kid .ensures .0) (h .inv .1)
-          (subst (λ (x : Found). Finds (a .st) W (a .height - 1) (kid .result) (h .left) x) (c .before .k .given .1) (c .before .before .before .find .ensures)),
+      passed-below (a .st) W (a .height) (a .s) (a .i) (h .j) (h .left) (kid .result) (passed .k .given .0 .0) (omega arith) (omega arith)
+          (kid .ensures .0) (h .inv .1)
+          (subst (λ (x : Found). Finds (a .st) W (a .height - 1) (kid .result) (h .left) x) (passed .k .given .1) (sought .find .ensures)),
     )
 
--- src/walk.rt:15:1
 find-returns-4 : (t : ℕ) → find-lts.Need-returns-4 (callees t) (find-at t) find.Post find-Inv-loop find-μ-loop
 find-returns-4 t c =
     let a = c .before .before .before .before .before .before .args in
     let W = words (a .pool .now) in
     let ns = nodes (a .st) W in
     let rs = nth ns (a .s) .rows in
-    found-none (a .st) W (a .height) (a .s) (a .i) (c .before .loop .left) (omega (arith, c .before .loop .inv .1, passed-all ns (a .height) rs (c .before .loop .j) (omega arith)))
+    found-none (a .st) W (a .height) (a .s) (a .i) (c .before .loop .left)
+    (omega (arith, c .before .loop .inv .1, passed-all ns (a .height) rs (c .before .loop .j) (omega arith)))
 
 pub +find-spec : {M : Type 1} → statement M
 +find-spec = close μ-find λ t. find-lts.spec (callees t) (find-at t)
@@ -138,17 +115,17 @@ pub +find-spec : {M : Type 1} → statement M
     find-Inv-loop
     find-μ-loop
     (find-returns t)
-    (find-sub-left t)
+    (λ c. search needs)
     (find-returns-2 t)
     (find-count-requires t)
     (find-loop-holds t)
     (find-child-at-requires t)
-    (find-sub-find t)
+    (λ c. search needs)
     (find-find-requires t)
-    (find-enum-known-t t)
+    (λ c. search needs)
     (find-returns-3 t)
-    (find-enum-known-k t)
-    (find-add-j t)
-    (find-loop-less t)
+    (λ c. search needs)
+    (λ c. search needs)
+    (λ c. search needs)
     (find-loop-again t)
     (find-returns-4 t)

@@ -38,7 +38,6 @@ nodes-in-Inv-loop pool st height s total₀ n j₀ total j =
 abbrev nodes-in-μ-loop : nodes-in-lts.MeasureT-loop
 nodes-in-μ-loop pool st height s total₀ n j₀ total j = n - j
 
--- src/walk.rt:46:9
 nodes-in-returns : (t : ℕ) → nodes-in-lts.Need-returns (callees t) (nodes-in-at t) nodes-in.Post nodes-in-Inv-loop nodes-in-μ-loop
 nodes-in-returns t c =
     let a = c .before .before .args in
@@ -47,66 +46,53 @@ nodes-in-returns t c =
     let rs = nth ns (a .s) .rows in
     omega (arith, nodes-tree ns (a .height) (a .s), passed-leaf ns (a .height) rs (c .if1 .taken))
 
--- src/walk.rt:48:9
 nodes-in-count-requires : (t : ℕ) → nodes-in-lts.Need-count-requires (callees t) (nodes-in-at t) nodes-in.Post nodes-in-Inv-loop nodes-in-μ-loop
-nodes-in-count-requires t c κs = standing-at (c .before .before .args .st) (words (c .before .before .args .pool .now)) (c .before .before .args .height) (c .before .before .args .s) (c .before .before .pre .1)
+nodes-in-count-requires t c κs =
+    let start = c .before .before in
+    standing-at (start .args .st) (words (start .args .pool .now)) (start .args .height) (start .args .s) (start .pre .1)
 
--- src/walk.rt:50:5
 nodes-in-loop-holds : (t : ℕ) → nodes-in-lts.Need-loop-holds (callees t) (nodes-in-at t) nodes-in.Post nodes-in-Inv-loop nodes-in-μ-loop
 nodes-in-loop-holds t c = (omega arith, refl)
 
--- src/walk.rt:51:13
 nodes-in-child-at-requires : (t : ℕ) → nodes-in-lts.Need-child-at-requires (callees t) (nodes-in-at t) nodes-in.Post nodes-in-Inv-loop nodes-in-μ-loop
 nodes-in-child-at-requires t c κs = (c .before .before .before .before .before .pre .1, (omega arith, omega arith))
 
--- src/walk.rt:52:37
-nodes-in-sub-nodes-in : (t : ℕ) → nodes-in-lts.Need-sub-nodes-in (callees t) (nodes-in-at t) nodes-in.Post nodes-in-Inv-loop nodes-in-μ-loop
-nodes-in-sub-nodes-in t c = search needs
-
--- src/walk.rt:52:18
 nodes-in-nodes-in-requires : (t : ℕ) → nodes-in-lts.Need-nodes-in-requires (callees t) (nodes-in-at t) nodes-in.Post nodes-in-Inv-loop nodes-in-μ-loop
 nodes-in-nodes-in-requires t c κs = (omega (arith, c .before .before .before .before .before .before .pre .0), c .child-at .ensures .1)
 
--- src/walk.rt:52:9
-nodes-in-add-total : (t : ℕ) → nodes-in-lts.Need-add-total (callees t) (nodes-in-at t) nodes-in.Post nodes-in-Inv-loop nodes-in-μ-loop
-nodes-in-add-total t c =
-    let a = c .before .before .before .before .before .before .before .args in
-    let W = words (a .pool .now) in
-    let ns = nodes (a .st) W in
+-- with the child that was counted the children before the next one have as many nodes more
+more : (t : ℕ) (c : nodes-in-lts.After-nodes-in (callees t) (nodes-in-at t) nodes-in.Post nodes-in-Inv-loop nodes-in-μ-loop) →
+    let loop = c .before .before .before in
+    let a = loop .before .before .before .before .args in
+    let ns = nodes (a .st) (words (a .pool .now)) in
     let rs = nth ns (a .s) .rows in
-    let h = c .before .before .before .loop in
-    let r = getD rs (h .j) blank in
+    passed ns (a .height) (take (loop .loop .j + 1) rs) ≡ passed ns (a .height) (take (loop .loop .j) rs) + c .nodes-in .result
+more t c =
+    let loop = c .before .before .before in
+    let a = loop .before .before .before .before .args in
+    let ns = nodes (a .st) (words (a .pool .now)) in
+    let rs = nth ns (a .s) .rows in
+    let kid = c .before .child-at in
+    let j : ℕ = loop .loop .j in
     omega (
       arith,
-      c .before .before .before .before .before .before .before .pre .1 .few,
-      h .inv .1,
       c .nodes-in .ensures,
-      nodes-tree ns (a .height) (a .s),
-      nodes-child ns (a .height) (c .before .child-at .result) r (omega arith) (c .before .child-at .ensures .0),
-      passed-more ns (a .height) rs (h .j) (omega arith),
-      passed-few ns (a .height) rs (h .j + 1),
+      nodes-child ns (a .height) (kid .result) (getD rs j blank) (omega arith) (kid .ensures .0),
+      passed-more ns (a .height) rs j (omega arith),
     )
 
--- src/walk.rt:53:9
-nodes-in-add-j : (t : ℕ) → nodes-in-lts.Need-add-j (callees t) (nodes-in-at t) nodes-in.Post nodes-in-Inv-loop nodes-in-μ-loop
-nodes-in-add-j t c = search needs
+nodes-in-add-total : (t : ℕ) → nodes-in-lts.Need-add-total (callees t) (nodes-in-at t) nodes-in.Post nodes-in-Inv-loop nodes-in-μ-loop
+nodes-in-add-total t c =
+    let loop = c .before .before .before in
+    let start = loop .before .before .before .before in
+    let a = start .args in
+    let ns = nodes (a .st) (words (a .pool .now)) in
+    let all = passed-few ns (a .height) (nth ns (a .s) .rows) (loop .loop .j + 1) in
+    omega (arith, start .pre .1 .few, loop .loop .inv .1, more t c, all, nodes-tree ns (a .height) (a .s))
 
--- src/walk.rt:50:5
-nodes-in-loop-less : (t : ℕ) → nodes-in-lts.Need-loop-less (callees t) (nodes-in-at t) nodes-in.Post nodes-in-Inv-loop nodes-in-μ-loop
-nodes-in-loop-less t c = search needs
-
--- src/walk.rt:50:5
 nodes-in-loop-again : (t : ℕ) → nodes-in-lts.Need-loop-again (callees t) (nodes-in-at t) nodes-in.Post nodes-in-Inv-loop nodes-in-μ-loop
-nodes-in-loop-again t c =
-    let a = c .before .before .before .before .before .before .before .args in
-    let W = words (a .pool .now) in
-    let ns = nodes (a .st) W in
-    let rs = nth ns (a .s) .rows in
-    let h = c .before .before .before .loop in
-    let r = getD rs (h .j) blank in
-    (omega arith, omega (arith, h .inv .1, c .nodes-in .ensures, nodes-child ns (a .height) (c .before .child-at .result) r (omega arith) (c .before .child-at .ensures .0), passed-more ns (a .height) rs (h .j) (omega arith)))
+nodes-in-loop-again t c = (omega arith, omega (arith, c .before .before .before .loop .inv .1, more t c))
 
--- src/walk.rt:40:1
 nodes-in-returns-2 : (t : ℕ) → nodes-in-lts.Need-returns-2 (callees t) (nodes-in-at t) nodes-in.Post nodes-in-Inv-loop nodes-in-μ-loop
 nodes-in-returns-2 t c =
     let a = c .before .before .before .before .before .args in
@@ -124,10 +110,10 @@ pub +nodes-in-spec : {M : Type 1} → statement M
     (nodes-in-count-requires t)
     (nodes-in-loop-holds t)
     (nodes-in-child-at-requires t)
-    (nodes-in-sub-nodes-in t)
+    (λ c. search needs)
     (nodes-in-nodes-in-requires t)
     (nodes-in-add-total t)
-    (nodes-in-add-j t)
-    (nodes-in-loop-less t)
+    (λ c. search needs)
+    (λ c. search needs)
     (nodes-in-loop-again t)
     (nodes-in-returns-2 t)

@@ -10,67 +10,23 @@ use Rattle.frame_text.specs.Digits.{spelled}
 use Rattle.frame_text.proofs.Lines.{spelled-none, number-more, rest-more}
 use Rattle.frame_text.proofs.digits.put_number.Statement.{statement}
 use Rattle.frame_text.proofs.digits.put_number.Tie as tie
-use Rattle.frame_text.proofs.digits.put_number.Reads as reads
-use Rattle.frame_text.proofs.digits.put_number.Lts as lts
 
 abbrev Inv-loop : tie.InvT-loop
-Inv-loop line₀ a value w rest₀ k₀ line rest k = (k ≤ w) × ((length line ≡ length line₀) × ((rest ≡ value / 256 ^ (w - k)) × (line ≡ spelled line₀ (a + k) (w - k) (bytes (w - k) value))))
+Inv-loop line₀ a value w rest₀ k₀ line rest k =
+    (k ≤ w) × ((length line ≡ length line₀) × ((rest ≡ value / 256 ^ (w - k)) × (line ≡ spelled line₀ (a + k) (w - k) (bytes (w - k) value))))
 
 abbrev μ-loop : tie.MeasureT-loop
 μ-loop line₀ a value w rest₀ k₀ line rest k = k
 
--- src/digits.rt:17:5
 loop-holds : tie.Need-loop-holds Inv-loop μ-loop
 loop-holds c =
     let s = c .before .args in
     let z : s .w - s .w ≡ 0 = omega arith in
     (omega arith, (refl, (rw z (sym (div-one (s .value))), rw z (spelled-none (s .line .now) (s .a + s .w) 0 refl))))
 
--- src/digits.rt:18:9
-sub-k : tie.Need-sub-k Inv-loop μ-loop
-sub-k c = search needs
-
--- src/digits.rt:20:33
-digit-of-requires : tie.Need-digit-of-requires Inv-loop μ-loop
-digit-of-requires c κs = search needs
-
--- src/digits.rt:20:19
-add-line : tie.Need-add-line Inv-loop μ-loop
-add-line c = search needs
-
--- src/digits.rt:20:14
-mul-line : tie.Need-mul-line Inv-loop μ-loop
-mul-line c = search needs
-
--- src/digits.rt:20:14
-add-line-2 : tie.Need-add-line-2 Inv-loop μ-loop
-add-line-2 c = search needs
-
--- src/digits.rt:20:9
-slice-write-line : tie.Need-slice-write-line Inv-loop μ-loop
-slice-write-line c = search needs
-
--- src/digits.rt:21:29
-digit-of-requires-2 : tie.Need-digit-of-requires-2 Inv-loop μ-loop
-digit-of-requires-2 c κs = search needs
-
--- src/digits.rt:21:19
-add-line-3 : tie.Need-add-line-3 Inv-loop μ-loop
-add-line-3 c = search needs
-
--- src/digits.rt:21:14
-mul-line-2 : tie.Need-mul-line-2 Inv-loop μ-loop
-mul-line-2 c = search needs
-
--- src/digits.rt:21:9
 slice-write-line-2 : tie.Need-slice-write-line-2 Inv-loop μ-loop
 slice-write-line-2 c = simp length-set (omega arith)
 
--- src/digits.rt:17:5
-loop-less : tie.Need-loop-less Inv-loop μ-loop
-loop-less c = search needs
-
--- src/digits.rt:17:5
 loop-again : tie.Need-loop-again Inv-loop μ-loop
 loop-again c =
     let s = c .before .before .before .before .before .args in
@@ -85,16 +41,18 @@ loop-again c =
         simp length-set (h .inv .1 .0),
         (
           rest-more (s .line .now) (s .a) (s .value) (s .w) k (omega arith) (omega arith) (h .rest) r,
-          rw (c .before .digit-of .ensures, c .digit-of2 .ensures, l) (number-more (s .line .now) (s .a) (s .value) (s .w) k (omega arith) (omega arith) (h .rest) r),
+          rw (
+            c .before .digit-of .ensures,
+            c .digit-of2 .ensures,
+            l,
+          ) (number-more (s .line .now) (s .a) (s .value) (s .w) k (omega arith) (omega arith) (h .rest) r),
         ),
       ),
     )
 
--- src/digits.rt:11:1
 same-length : tie.Need-same-length Inv-loop μ-loop
 same-length c = c .before .loop .inv .1 .0
 
--- src/digits.rt:11:1
 returns : tie.Need-returns Inv-loop μ-loop
 returns c =
     let s = c .before .before .before .args in
@@ -111,17 +69,17 @@ put-number-spec =
     Inv-loop
     μ-loop
     loop-holds
-    sub-k
-    digit-of-requires
-    add-line
-    mul-line
-    add-line-2
-    slice-write-line
-    digit-of-requires-2
-    add-line-3
-    mul-line-2
+    (λ c. search needs)
+    (λ c κs. search needs)
+    (λ c. search needs)
+    (λ c. search needs)
+    (λ c. search needs)
+    (λ c. search needs)
+    (λ c κs. search needs)
+    (λ c. search needs)
+    (λ c. search needs)
     slice-write-line-2
-    loop-less
+    (λ c. search needs)
     loop-again
     same-length
     returns)

@@ -10,8 +10,6 @@ use Rattle.frame_text.specs.Contents.{first}
 use Rattle.frame_text.proofs.Coded.{keys-framed, keys-fall, keys-rise, keys-end}
 use Rattle.frame_text.proofs.entries.ascending.Statement.{statement}
 use Rattle.frame_text.proofs.entries.ascending.Tie as tie
-use Rattle.frame_text.proofs.entries.ascending.Reads as reads
-use Rattle.frame_text.proofs.entries.ascending.Lts as lts
 
 abbrev Inv-loop : tie.InvT-loop
 Inv-loop n entries i₀ i = (1 ≤ i) × (rising (drop (i - 1) (map (λ e. e .key) (first n entries))) ≡ rising (map (λ e. e .key) (first n entries)))
@@ -19,31 +17,9 @@ Inv-loop n entries i₀ i = (1 ≤ i) × (rising (drop (i - 1) (map (λ e. e .ke
 abbrev μ-loop : tie.MeasureT-loop
 μ-loop n entries i₀ i = n - i
 
--- src/entries.rt:21:5
 loop-holds : tie.Need-loop-holds Inv-loop μ-loop
 loop-holds c = (omega arith, refl)
 
--- src/entries.rt:22:27
-sub-low : tie.Need-sub-low Inv-loop μ-loop
-sub-low c = search needs
-
--- src/entries.rt:22:19
-mul-low : tie.Need-mul-low Inv-loop μ-loop
-mul-low c = search needs
-
--- src/entries.rt:22:19
-array-copy-out-low : tie.Need-array-copy-out-low Inv-loop μ-loop
-array-copy-out-low c = search needs
-
--- src/entries.rt:23:20
-mul-high : tie.Need-mul-high Inv-loop μ-loop
-mul-high c = search needs
-
--- src/entries.rt:23:20
-array-copy-out-high : tie.Need-array-copy-out-high Inv-loop μ-loop
-array-copy-out-high c = search needs
-
--- src/entries.rt:25:13
 returns : tie.Need-returns Inv-loop μ-loop
 returns c =
     let a = c .before .before .before .before .before .before .before .before .args .contents in
@@ -51,22 +27,12 @@ returns c =
     sym (keys-fall (a .count) (a .entries) (h .i) (h .inv .0) (c .before .before .before .before .before .loop-test .taken) (c .if1 .taken)) ∙ h .inv .1
     ∙ sym (ap rising (keys-framed (a .kind) (first (a .count) (a .entries))))
 
--- src/entries.rt:27:9
-add-i : tie.Need-add-i Inv-loop μ-loop
-add-i c = search needs
-
--- src/entries.rt:21:5
-loop-less : tie.Need-loop-less Inv-loop μ-loop
-loop-less c = search needs
-
--- src/entries.rt:21:5
 loop-again : tie.Need-loop-again Inv-loop μ-loop
 loop-again c =
     let a = c .before .before .before .before .before .before .before .before .args .contents in
     let h = c .before .before .before .before .before .before .loop in
     (omega arith, keys-rise (a .count) (a .entries) (h .i) (h .inv .0) (c .before .before .before .before .before .loop-test .taken) (c .if1 .left) ∙ h .inv .1)
 
--- src/entries.rt:14:1
 returns-2 : tie.Need-returns-2 Inv-loop μ-loop
 returns-2 c =
     let a = c .before .before .before .args .contents in
@@ -81,13 +47,13 @@ ascending-spec =
     Inv-loop
     μ-loop
     loop-holds
-    sub-low
-    mul-low
-    array-copy-out-low
-    mul-high
-    array-copy-out-high
+    (λ c. search needs)
+    (λ c. search needs)
+    (λ c. search needs)
+    (λ c. search needs)
+    (λ c. search needs)
     returns
-    add-i
-    loop-less
+    (λ c. search needs)
+    (λ c. search needs)
     loop-again
     returns-2)
