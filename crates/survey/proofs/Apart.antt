@@ -6,7 +6,6 @@ use Prim.Native.Nat.{ℕ, zero, suc, _+_, _≤_, _<_}
 use native.Mathlib.Omega.{arith}
 use native.Mathlib.Decide.{ℕ-discrete}
 use lib.ListN.{length, length-append}
-use borrow.Author.Tests.{eq-eqb, ne-eqb}
 use Rattle.slots_raw.specs.declared.Row.{Row}
 use Rattle.slots.specs.Nodes.{nth}
 use Rattle.slots.specs.Nodes as S
@@ -68,7 +67,8 @@ module _ (st : Settings) (ns : List S.Node) where
   height-made : (most h s : ℕ) → h ≤ most → Made h s → heightAt ns most s ≡ h
   height-made most zero s le m = edge-end ns most s (λ e. absurd (omega (arith, m .0)))
   height-made zero (suc h) s le m = absurd (omega arith)
-  height-made (suc most) (suc h) s le m = edge-down ns most s (m .0 .0) ∙ ap suc (first (nth ns s .rows) (m .0 .1) (m .1 .0 .some) (m .1 .1) (height-made most h))
+  height-made (suc most) (suc h) s le m =
+      edge-down ns most s (m .0 .0) ∙ ap suc (first (nth ns s .rows) (m .0 .1) (m .1 .0 .some) (m .1 .1) (height-made most h))
     where
       first : (rs : List Row) → All (λ r. Kinds ns h (childOf r)) rs → 0 < length (itemsAt ns (suc h) rs) → All (Whole st (suc h)) (itemsAt ns (suc h) rs)
           → ((c : ℕ) → h ≤ most → Made h c → heightAt ns most c ≡ h) → heightAt ns most (firstChild rs) ≡ h
@@ -124,7 +124,14 @@ module _ (st : Settings) (ns : List S.Node) where
     slots-shown zero le s m = by (ℕ-discrete x s)
       where
         by : Dec (x ≡ s) → hit x s + times x (slotsIn zero (treeAt ns zero s .items)) ≤ times (shown x) (keysOf (entries 1 (treeAt ns zero s)))
-        by (yes e) = omega (arith, hit-same x s e, slots-leaf x (treeAt ns zero s .items), ap (λ (y : ℕ). times (shown y) (keysOf (entries 1 (treeAt ns zero s)))) e, own-shown zero s le m)
+        by (yes e) =
+            omega (
+              arith,
+              hit-same x s e,
+              slots-leaf x (treeAt ns zero s .items),
+              ap (λ (y : ℕ). times (shown y) (keysOf (entries 1 (treeAt ns zero s)))) e,
+              own-shown zero s le m,
+            )
         by (no ne) = omega (arith, hit-other x s ne, slots-leaf x (treeAt ns zero s .items))
     slots-shown (suc h) le s m =
         by (ℕ-discrete x s) (kids-low h (slots-low h (omega arith)) (m .0 .1) (m .1 .1)) (kids-shown h (slots-shown h (omega arith)) (m .0 .1) (m .1 .1))

@@ -1,17 +1,16 @@
 -- Soundness is decidable: each part of it is, and the parts are those that the survey tests. Assumes nothing.
-use mathlib.Core.Path.{_≡_, refl, sym, ap, _∙_}
+use mathlib.Core.Path.{_≡_, refl, sym}
 use mathlib.Core.Bool.{Bool, true, false, true≢false}
 use mathlib.Core.List.{List, [], _∷_}
 use Prim.Native.Nat.{ℕ, zero, suc, _+_, _-_, _*_, _/_, _≤_, _<_}
 use native.Mathlib.Nat.{not-suc-le-zero}
 use native.Mathlib.Omega.{arith}
 use native.Mathlib.Decide.{map-dec, ℕ-discrete, decLe, decLt}
-use lib.ListN.{length, getD, take, drop}
+use lib.ListN.{length, getD}
 use Rattle.words.specs.Words.{words}
-use Rattle.words_runs.specs.Moves.{allZero}
 use Rattle.slots_raw.specs.declared.Row.{Row}
 use Rattle.slots_raw.specs.Slots.{width, rawAt, Shape}
-use Rattle.slots.specs.Nodes.{nodes, nth, unused, rawFor}
+use Rattle.slots.specs.Nodes.{nodes, nth}
 use Rattle.slots.specs.Nodes as S
 use Rattle.slots_raw.proofs.Raws.{base-of}
 use Rattle.slots.proofs.Nodes.{length-nodes}
@@ -22,10 +21,10 @@ use Rattle.model.specs.declared.Settings.{Settings}
 use Rattle.model.specs.Answer.{Tells}
 use Rattle.model.specs.Lists.{All, none, one, Ordered, nil, cons}
 use Rattle.model.specs.Tree.{Item, Tree, len, entries, slots, total, greatestKey}
-use Rattle.model.specs.Sound.{InLimits, Stocked, Whole, Sorted, Fits}
+use Rattle.model.specs.Sound.{InLimits, Whole, Fits}
 use Rattle.model.proofs.Lists.{all-head, all-tail, all-every}
 use Rattle.tree.specs.Bridge.{childOf, childTotals, treeAt, unusedOf}
-use Rattle.tree.specs.Pool.{poolLen, heightAt, settingsIn, nodesIn, Kinds, EachChild, Separates, Totalled, SoundPool}
+use Rattle.tree.specs.Pool.{poolLen, heightAt, settingsIn, Kinds, EachChild, Separates, Totalled, SoundPool}
 use Rattle.tree.proofs.Sums.{totals-discrete}
 use Rattle.tree.proofs.Opening.{exact-shape}
 use Rattle.survey.specs.Surveyed.{Headed}

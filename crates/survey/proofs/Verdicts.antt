@@ -3,7 +3,7 @@
 use mathlib.Core.Path.{_≡_, refl, sym, ap, _∙_, subst}
 use mathlib.Core.Bool.{Bool, true, false, cond, true≢false}
 use mathlib.Core.List.{List, [], _∷_, _++_}
-use Prim.Native.Nat.{ℕ, zero, suc, _+_, _-_, _≤_, _<_}
+use Prim.Native.Nat.{ℕ, zero, suc, _+_, _≤_, _<_}
 use native.Mathlib.Omega.{arith}
 use native.Mathlib.Decide.{decLt, ℕ-discrete}
 use lib.Dec.{ltb, eqb}
@@ -20,10 +20,10 @@ use Rattle.model.specs.Answer.{Tells}
 use Rattle.model.specs.Lists.{times}
 use Rattle.model.specs.Tree.{Tree, len, slots, entriesOf, slotsOf}
 use Rattle.model.specs.Sound.{Whole, Rooted, Once}
-use Rattle.model.proofs.Answers.{tells-no, tells-yes, tells-unique}
+use Rattle.model.proofs.Answers.{tells-unique}
 use Rattle.model.proofs.Lists.{all-every, by-test, times-append}
 use Rattle.model.proofs.Trees.{once-count, slots-leaf, root-few}
-use Rattle.tree.specs.Bridge.{treeAt, unusedFrom, unusedOf, Holds}
+use Rattle.tree.specs.Bridge.{treeAt, unusedFrom, unusedOf}
 use Rattle.tree.specs.Pool.{heightAt, indexIn, settingsIn, nodesIn, indexOf, Zeros, SoundNodes, SoundPool}
 use Rattle.tree.proofs.Counts.{times-all}
 use Rattle.tree.proofs.Cells.{used-tree}
@@ -53,7 +53,8 @@ root-some st (suc h) t r = r .0
 
 -- EACH SLOT ONCE
 
-root-once : (st : Settings) (W : List ℕ) (h used : ℕ) → h ≤ 7 → Right st W h 0 (leastRoot h) unmet used → (x : ℕ) → times x (slots (suc h) (treeAt (nodes st W) h 0)) ≤ 1
+root-once : (st : Settings) (W : List ℕ) (h used : ℕ) → h ≤ 7 → Right st W h 0 (leastRoot h) unmet used → (x : ℕ)
+    → times x (slots (suc h) (treeAt (nodes st W) h 0)) ≤ 1
 root-once st W zero used le g x = omega (arith, hit-most x 0, slots-leaf x (treeAt (nodes st W) zero 0 .items))
 root-once st W (suc h) used le g x =
     let whole : Whole st (suc (suc h)) (treeAt (nodes st W) (suc h) 0) = (record { some = omega (arith, g .some); few = g .few }, g .whole) in
@@ -173,7 +174,8 @@ verdict-there st W h e s = rw e (kinds-there st W (heightAt (nodes st W) 8 0) 0 
 pub unused-few : (a : ℕ) (ns : List S.Node) → length (unusedFrom a ns) ≤ length ns
 unused-few a [] = omega arith
 unused-few a (n ∷ ns) =
-    by-test (λ (l : List ℕ). length l ≤ suc (length ns)) (eqb (n .kind) 0) (λ e. omega (arith, unused-few (suc a) ns)) (λ e. omega (arith, unused-few (suc a) ns))
+    by-test (λ (l : List ℕ). length l ≤ suc (length ns)) (eqb (n .kind) 0) (λ e. omega (arith, unused-few (suc a) ns))
+    (λ e. omega (arith, unused-few (suc a) ns))
 
 pub survey-not : (l : List ℕ) (r : Findings) → r ≡ unsound → (SoundPool l → ⊥) → Surveyed l r
 survey-not l r e f =

@@ -1,5 +1,5 @@
 -- Keys that ascend from a last key on, entry by entry, are those that are sorted and beyond it. Assumes nothing.
-use mathlib.Core.Path.{_≡_, refl, sym, ap, _∙_}
+use mathlib.Core.Path.{_≡_, refl, ap, _∙_}
 use mathlib.Core.Bool.{true}
 use mathlib.Core.List.{List, [], _∷_, _++_}
 use Prim.Native.Nat.{ℕ, _<_}
@@ -45,7 +45,8 @@ ascends-beyond p (e ∷ es) h = one (h .0) (all-map (λ (x : Entry) (g : Beyond 
 
 pub ascends-sorted : (p : Last) (es : List Entry) → Ascends p es → Sorted es
 ascends-sorted p [] h = nil
-ascends-sorted p (e ∷ es) h = cons (all-map (λ (x : Entry) (g : Beyond (met e) x). g refl) (ascends-beyond (met e) es (h .1))) (ascends-sorted (met e) es (h .1))
+ascends-sorted p (e ∷ es) h =
+    cons (all-map (λ (x : Entry) (g : Beyond (met e) x). g refl) (ascends-beyond (met e) es (h .1))) (ascends-sorted (met e) es (h .1))
 
 pub sorted-ascends : (p : Last) (es : List Entry) → Sorted es → All (Beyond p) es → Ascends p es
 sorted-ascends p [] s b = tt

@@ -2,13 +2,13 @@
 use mathlib.Core.Path.{_≡_, refl, sym, ap, _∙_, subst}
 use mathlib.Core.Bool.{Bool}
 use mathlib.Core.List.{List, [], _∷_}
-use Prim.Native.Nat.{ℕ, zero, suc, _-_, _*_, _≤_, _<_, min}
+use Prim.Native.Nat.{ℕ, _-_, _*_, _≤_, _<_, min}
 use native.Mathlib.Omega.{arith}
 use lib.ListN.{length, take, drop, getD, replicate, length-take}
 use lib.Seq.{getD-take}
 use Rattle.slots_raw.specs.declared.Row.{Row}
 use Rattle.slots_raw.specs.Slots.{blank, rawAt}
-use Rattle.slots.specs.Nodes.{nodeOf, nodes, rowsAt}
+use Rattle.slots.specs.Nodes.{nodeOf, rowsAt}
 use Rattle.slots.specs.Nodes as S
 use Rattle.slots.proofs.Nodes.{node-raw}
 use Rattle.slots_pool.proofs.Canons.{length-cells, canon-tail, canon-blank}

@@ -2,7 +2,7 @@
 -- Assumes nothing.
 use mathlib.Core.Path.{_≡_, refl, sym, ap, _∙_, subst}
 use mathlib.Core.Bool.{Bool, true, false, true≢false}
-use mathlib.Core.List.{List, [], _∷_, _++_, map}
+use mathlib.Core.List.{List, _∷_, map}
 use Prim.Native.Nat.{ℕ, zero, suc, _+_, _-_, _≤_, _<_}
 use native.Mathlib.Omega.{arith}
 use lib.ListN.{length, drop, getD, length-append, drop-of-length-le}
@@ -11,10 +11,8 @@ use Rattle.slots_raw.specs.declared.Row.{Row}
 use Rattle.slots_raw.specs.Slots.{blank}
 use Rattle.slots.specs.Nodes.{nodes, rowsAt}
 use Rattle.slots.specs.Nodes as S
-use Rattle.model.specs.declared.Entry.{Entry}
 use Rattle.model.specs.declared.Totals.{Totals}
 use Rattle.model.specs.declared.Settings.{Settings}
-use Rattle.model.specs.Lists.{All}
 use Rattle.model.specs.Tree.{Item, Tree, entries, slots, total, greatestKey, sumOf, plus}
 use Rattle.model.specs.Sound.{Whole}
 use Rattle.model.specs.Contracts.{flat}
@@ -25,7 +23,7 @@ use Rattle.survey_node.specs.declared.Part.{Part}
 use Rattle.survey_node.specs.Checked.{Last, last, after, Head, Tail, Right, Checked, EntryRight, RowRight, begun, grown}
 use Rattle.survey_node.proofs.Ascents.{after-append, after-ends}
 use Rattle.survey_node.proofs.Sums.{Small, Slight, small-none, small-more, small-addable, entry-slight, child-slight}
-use Rattle.survey_node.proofs.Rows.{itemAt, itemsAt, RightRow, RightRows, rows-none, rows-cons, rows-head, rows-tail, right-rows, rows-right}
+use Rattle.survey_node.proofs.Rows.{itemAt, itemsAt, RightRow, RightRows, rows-none, rows-cons, rows-head, rows-tail, rows-right}
 
 -- WHAT A RIGHT ROW ADDS
 
@@ -86,7 +84,8 @@ module _ (st : Settings) (W : List ℕ) (h : ℕ) (rs : List Row) where
     going-end le = g .back (rw (drop-of-length-le rs le) (rows-none st W h (last met (part .last)) (part .left)))
 
     pub end-key : length rs ≤ i → part .last ≡ after p (flat h (itemsAt ns h rs)) .key
-    end-key le = ap (λ (l : Last). l .key) (sym (g .end ∙ ap (λ (l : List Row). after (last met (part .last)) (flat h (itemsAt ns h l))) (drop-of-length-le rs le)))
+    end-key le =
+        ap (λ (l : Last). l .key) (sym (g .end ∙ ap (λ (l : List Row). after (last met (part .last)) (flat h (itemsAt ns h l))) (drop-of-length-le rs le)))
 
     pub end-totals : length rs ≤ i → part .totals ≡ sums ns h rs
     end-totals le = sym (g .totals ∙ ap (λ (l : List Row). plus (part .totals) (sums ns h l)) (drop-of-length-le rs le) ∙ plus-zero (part .totals))
@@ -104,7 +103,8 @@ module _ (st : Settings) (W : List ℕ) (h : ℕ) (rs : List Row) where
       -- a row that is not right is a fault of the node
       pub going-fault : (RightRow st W h row (last met (part .last)) (part .left) → ⊥) → RightRows st W h rs p left → ⊥
       going-fault wrong k =
-          let now : RightRows st W h (row ∷ drop (i + 1) rs) (last met (part .last)) (part .left) = subst (λ (l : List Row). RightRows st W h l (last met (part .last)) (part .left)) here (g .there k) in
+          let now : RightRows st W h (row ∷ drop (i + 1) rs) (last met (part .last)) (part .left) =
+          subst (λ (l : List Row). RightRows st W h l (last met (part .last)) (part .left)) here (g .there k) in
           wrong (rows-head st W h row (drop (i + 1) rs) (last met (part .last)) (part .left) now)
 
       -- one that is right takes the walk on
@@ -128,7 +128,8 @@ module _ (st : Settings) (W : List ℕ) (h : ℕ) (rs : List Row) where
                 ∙ after-append q (entries h x) (flat h (itemsAt ns h more)) ∙ ap (λ (l : Last). after l (flat h (itemsAt ns h more))) key;
             totals = g .totals ∙ ap (λ (l : List Row). plus (part .totals) (sums ns h l)) here ∙ sym (plus-assoc (part .totals) (total h x) (sums ns h more));
             rest =
-                let long : length (slotsIn h (itemsAt ns h (drop i rs))) ≡ length (slots h (itemAt ns h (getD rs i blank))) + length (slotsIn h (itemsAt ns h (drop (i + 1) rs))) =
+                let long : length (slotsIn h (itemsAt ns h (drop i rs)))
+                ≡ length (slots h (itemAt ns h (getD rs i blank))) + length (slotsIn h (itemsAt ns h (drop (i + 1) rs))) =
                 ap (λ (l : List Row). length (slotsIn h (itemsAt ns h l))) here ∙ length-append (slots h x) (slotsIn h (itemsAt ns h more)) in
                 omega (arith, g .rest);
             small = small-more (part .totals) (total h x) i (g .small) (row-slight st W h row q (part .left) right);

@@ -5,7 +5,6 @@ use lib.ListN.{length}
 use borrow.Author.Tests.{not-true, not-false, eqb-true, eq-eqb}
 use borrow.Author.Needs.{needs}
 use Rattle.words.proofs.Laws.{length-words}
-use Rattle.model.specs.declared.Settings.{Settings}
 use Rattle.model.specs.Sound.{InLimits}
 use Rattle.model.proofs.Answers.{tells-no, told-no}
 use Rattle.tree.specs.Pool.{poolLen, settingsIn}
@@ -26,7 +25,8 @@ settings-requires c κs = omega (arith, length-words (c .before .before .before 
 
 returns-3 : tie.Need-returns-3
 returns-3 c =
-    tells-no (λ g. told-no (c .before .in-limits .ensures) (not-true (c .before .in-limits .result) (c .if3 .taken)) (rw (c .before .before .settings .ensures) (g .settings)))
+    tells-no (λ g. told-no (c .before .in-limits .ensures) (not-true (c .before .in-limits .result) (c .if3 .taken))
+    (rw (c .before .before .settings .ensures) (g .settings)))
 
 pool-len-requires : tie.Need-pool-len-requires
 pool-len-requires c κs = c .before .in-limits .ensures .holds (not-false (c .before .in-limits .result) (c .if3 .left))

@@ -3,7 +3,6 @@ use mathlib.Core.Path.{_≡_, ap, _∙_}
 use mathlib.Core.Bool.{true, true≢false}
 use Prim.Native.Nat.{_≤_}
 use native.Mathlib.Omega.{arith}
-use lib.ListN.{length}
 use borrow.Author.Needs.{needs}
 use borrow.Author.Tests.{not-true, not-false}
 use Rattle.words.specs.Words.{words}
@@ -13,7 +12,7 @@ use Rattle.slots.proofs.Nodes.{length-nodes}
 use Rattle.model.specs.declared.Settings.{Settings}
 use Rattle.model.specs.Answer.{Tells}
 use Rattle.model.proofs.Answers.{tells-yes, told-no}
-use Rattle.tree.specs.Bridge.{unusedOf}
+use Rattle.slots_raw.specs.Slots.{Shape}
 use Rattle.tree.specs.Pool.{settingsIn, nodesIn, heightAt}
 use Rattle.tree.proofs.Opening.{exact-shape}
 use Rattle.survey.specs.Surveyed.{Headed}
@@ -23,78 +22,106 @@ use Rattle.survey.proofs.Verdicts.{unused-few, survey-not, sound-pool, 
 use Rattle.survey.proofs.survey.Statement.{statement}
 use Rattle.survey.proofs.survey.Tie as tie
 
+-- behind the first test the header is right, and so is the shape
+headed : (c : tie.Else1) → Headed (c .before .before .before .args .pool .now)
+headed c = c .before .header-right .ensures .holds (not-false (c .before .header-right .result) (c .if1 .left))
+
+shaped : (c : tie.Else1) → let l = c .before .before .before .args .pool .now in Shape (settingsIn l) (words l)
+shaped c = let l = c .before .before .before .args .pool .now in exact-shape (settingsIn l) l (headed c .settings) (headed c .exact)
+
+-- the unused slots are told, for the settings in the pool
+spared : (c : tie.After-survey-slots) →
+    let l = c .before .before .before .before .before .args .pool .now in Spared (settingsIn l) (words l) (c .survey-slots .result)
+spared c = rw (c .before .settings .ensures) at (c .survey-slots .ensures)
+
+-- behind the second test each unused slot is zero
+idle : (c : tie.Else2) → c .before .before .survey-slots .result .ok ≡ true
+idle c = not-false (c .before .before .survey-slots .result .ok) (c .if2 .left)
+
+-- the unused slots are no more than the slots
+few : (c : tie.Else2) →
+    let found = c .before .before in
+    found .survey-slots .result .unused ≤ settingsIn (found .before .before .before .before .before .args .pool .now) .nodes
+few c =
+    let found = c .before .before in
+    let l = found .before .before .before .before .before .args .pool .now in
+    omega (arith, spared found .free (idle c), unused-few 0 (nodesIn l), length-nodes (settingsIn l) (words l))
+
+-- the height that is found is that of the left edge
+edge : (c : tie.After-left-edge) →
+    let l = c .before .before .before .before .before .before .before .before .args .pool .now in c .left-edge .result ≡ heightAt (nodesIn l) 8 0
+edge c =
+    let set = c .before .before .before .before in
+    let l = set .before .before .before .before .args .pool .now in
+    c .left-edge .ensures ∙ ap (λ (x : Settings). heightAt (nodes x (words l)) 8 0) (set .settings .ensures)
+
+-- the walk tells of the tree, for the settings in the pool
+told : (c : tie.After-tree-right) →
+    let set = c .before .before .before .before .before .before .before in
+    let l = set .before .before .before .before .args .pool .now in
+    Tells (c .tree-right .result) (SoundTree (settingsIn l) (words l))
+told c = rw (c .before .before .before .before .before .before .before .settings .ensures) at (c .tree-right .ensures)
+
 returns : tie.Need-returns
 returns c =
-    let l = c .before .before .before .before .args .pool .now in
-    survey-not l (c .nothing .result) (c .nothing .ensures) (λ s. told-no (c .before .before .header-right .ensures) (not-true (c .before .before .header-right .result) (c .before .if1 .taken)) (pool-headed l s))
+    let test = c .before .before in
+    let l = test .before .before .args .pool .now in
+    survey-not l (c .nothing .result) (c .nothing .ensures)
+    (λ s. told-no (test .header-right .ensures) (not-true (test .header-right .result) (c .before .if1 .taken)) (pool-headed l s))
 
 settings-requires : tie.Need-settings-requires
-settings-requires c κs =
-    let l = c .before .before .before .args .pool .now in
-    let head : Headed l = c .before .header-right .ensures .holds (not-false (c .before .header-right .result) (c .if1 .left)) in
-    omega (arith, length-words l, head .exact)
+settings-requires c κs = omega (arith, length-words (c .before .before .before .args .pool .now), headed c .exact)
 
 survey-slots-requires : tie.Need-survey-slots-requires
-survey-slots-requires c κs =
-    let l = c .before .before .before .before .args .pool .now in
-    let head : Headed l = c .before .before .header-right .ensures .holds (not-false (c .before .before .header-right .result) (c .before .if1 .left)) in
-    rw (c .settings .ensures) (exact-shape (settingsIn l) l (head .settings) (head .exact))
+survey-slots-requires c κs = rw (c .settings .ensures) (shaped (c .before))
 
 returns-2 : tie.Need-returns-2
 returns-2 c =
-    let l = c .before .before .before .before .before .before .before .before .args .pool .now in
-    let st : c .before .before .before .before .settings .result ≡ settingsIn l = c .before .before .before .before .settings .ensures in
-    let spared : Spared (settingsIn l) (words l) (c .before .before .before .survey-slots .result) = rw st at (c .before .before .before .survey-slots .ensures) in
-    survey-not l (c .nothing2 .result) (c .nothing2 .ensures) (λ s. told-no (spared .ok) (not-true (c .before .before .before .survey-slots .result .ok) (c .before .if2 .taken)) (pool-idle l s))
+    let found = c .before .before .before in
+    let l = found .before .before .before .before .before .args .pool .now in
+    survey-not l (c .nothing2 .result) (c .nothing2 .ensures)
+    (λ s. told-no (spared found .ok) (not-true (found .survey-slots .result .ok) (c .before .if2 .taken)) (pool-idle l s))
 
 left-edge-requires : tie.Need-left-edge-requires
-left-edge-requires c κs =
-    let l = c .before .before .before .before .before .before .before .args .pool .now in
-    let head : Headed l = c .before .before .before .before .before .header-right .ensures .holds (not-false (c .before .before .before .before .before .header-right .result) (c .before .before .before .before .if1 .left)) in
-    let st : c .before .before .before .settings .result ≡ settingsIn l = c .before .before .before .settings .ensures in
-    rw st (exact-shape (settingsIn l) l (head .settings) (head .exact))
+left-edge-requires c κs = let set = c .before .before .before in rw (set .settings .ensures) (shaped (set .before))
 
 sub-tree-right : tie.Need-sub-tree-right
 sub-tree-right c =
-    let l = c .before .before .before .before .before .before .before .before .before .before .args .pool .now in
-    let st : c .before .before .before .before .before .before .settings .result ≡ settingsIn l = c .before .before .before .before .before .before .settings .ensures in
-    let spared : Spared (settingsIn l) (words l) (c .before .before .before .before .before .survey-slots .result) = rw st at (c .before .before .before .before .before .survey-slots .ensures) in
-    let ok : c .before .before .before .before .before .survey-slots .result .ok ≡ true = not-false (c .before .before .before .before .before .survey-slots .result .ok) (c .before .before .before .if2 .left) in
-    let few : length (unusedOf (nodesIn l)) ≤ settingsIn l .nodes = omega (arith, unused-few 0 (nodesIn l), length-nodes (settingsIn l) (words l)) in
-    omega (arith, spared .free ok, ap (λ (x : Settings). x .nodes) st)
+    let tested = c .before .before .before in
+    let set = tested .before .before .before in
+    omega (arith, few tested, ap (λ (x : Settings). x .nodes) (set .settings .ensures))
 
 tree-right-requires : tie.Need-tree-right-requires
 tree-right-requires c κs =
-    let l = c .before .before .before .before .before .before .before .before .before .before .args .pool .now in
-    let head : Headed l = c .before .before .before .before .before .before .before .before .header-right .ensures .holds (not-false (c .before .before .before .before .before .before .before .before .header-right .result) (c .before .before .before .before .before .before .before .if1 .left)) in
-    let st : c .before .before .before .before .before .before .settings .result ≡ settingsIn l = c .before .before .before .before .before .before .settings .ensures in
-    let spared : Spared (settingsIn l) (words l) (c .before .before .before .before .before .survey-slots .result) = rw st at (c .before .before .before .before .before .survey-slots .ensures) in
-    let ok : c .before .before .before .before .before .survey-slots .result .ok ≡ true = not-false (c .before .before .before .before .before .survey-slots .result .ok) (c .before .before .before .if2 .left) in
-    let few : length (unusedOf (nodesIn l)) ≤ settingsIn l .nodes = omega (arith, unused-few 0 (nodesIn l), length-nodes (settingsIn l) (words l)) in
-    let edge : c .before .before .left-edge .result ≡ heightAt (nodesIn l) 8 0 = c .before .before .left-edge .ensures ∙ ap (λ (x : Settings). heightAt (nodes x (words l)) 8 0) st in
-    rw st (exact-shape (settingsIn l) l (head .settings) (head .exact), record { height = edge; used = omega (arith, spared .free ok) })
+    let tested = c .before .before .before in
+    let found = tested .before .before in
+    let set = found .before in
+    rw (set .settings .ensures)
+    (shaped (set .before), record { height = edge (c .before .before); used = omega (arith, few tested, spared found .free (idle tested)) })
 
 returns-3 : tie.Need-returns-3
 returns-3 c =
-    let l = c .before .before .before .before .before .before .before .before .before .before .before .before .before .args .pool .now in
-    let st : c .before .before .before .before .before .before .before .before .before .settings .result ≡ settingsIn l = c .before .before .before .before .before .before .before .before .before .settings .ensures in
-    let told : Tells (c .before .before .tree-right .result) (SoundTree (settingsIn l) (words l)) = rw st at (c .before .before .tree-right .ensures) in
-    survey-not l (c .nothing3 .result) (c .nothing3 .ensures) (λ s. told-no told (not-true (c .before .before .tree-right .result) (c .before .if3 .taken)) (pool-tree l s))
+    let test = c .before .before in
+    let found = test .before .before .before .before .before .before in
+    let l = found .before .before .before .before .before .args .pool .now in
+    survey-not l (c .nothing3 .result) (c .nothing3 .ensures)
+    (λ s. told-no (told test) (not-true (test .tree-right .result) (c .before .if3 .taken)) (pool-tree l s))
 
 returns-4 : tie.Need-returns-4
 returns-4 c =
-    let l = c .before .before .before .before .before .before .before .before .before .before .before .before .args .pool .now in
-    let head : Headed l = c .before .before .before .before .before .before .before .before .before .before .header-right .ensures .holds (not-false (c .before .before .before .before .before .before .before .before .before .before .header-right .result) (c .before .before .before .before .before .before .before .before .before .if1 .left)) in
-    let st : c .before .before .before .before .before .before .before .before .settings .result ≡ settingsIn l = c .before .before .before .before .before .before .before .before .settings .ensures in
-    let spared : Spared (settingsIn l) (words l) (c .before .before .before .before .before .before .before .survey-slots .result) = rw st at (c .before .before .before .before .before .before .before .survey-slots .ensures) in
-    let ok : c .before .before .before .before .before .before .before .survey-slots .result .ok ≡ true = not-false (c .before .before .before .before .before .before .before .survey-slots .result .ok) (c .before .before .before .before .before .if2 .left) in
-    let told : Tells (c .before .tree-right .result) (SoundTree (settingsIn l) (words l)) = rw st at (c .before .tree-right .ensures) in
-    let edge : c .before .before .before .before .left-edge .result ≡ heightAt (nodesIn l) 8 0 = c .before .before .before .before .left-edge .ensures ∙ ap (λ (x : Settings). heightAt (nodes x (words l)) 8 0) st in
+    let test = c .before in
+    let walked = test .before .before .before in
+    let tested = walked .before in
+    let found = tested .before .before in
+    let right = found .before .before in
+    let l = right .before .before .before .args .pool .now in
     record {
-      sound = tells-yes (sound-pool l head (spared .ok .holds ok) (told .holds (not-false (c .before .tree-right .result) (c .if3 .left))));
-      height = λ t. edge;
-      unused = λ t. spared .free ok;
-      low = λ t. spared .low ok;
+      sound =
+          tells-yes (sound-pool l (headed right) (spared found .ok .holds (idle tested))
+          (told test .holds (not-false (test .tree-right .result) (c .if3 .left))));
+      height = λ t. edge walked;
+      unused = λ t. spared found .free (idle tested);
+      low = λ t. spared found .low (idle tested);
       nothing = λ t. absurd (true≢false t);
     }
 

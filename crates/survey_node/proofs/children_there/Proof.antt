@@ -1,5 +1,5 @@
 -- `children_there` meets its contract. The loop's invariant: each of the first `i` rows names a node that is there. Assumes nothing.
-use mathlib.Core.Path.{_≡_, sym, ap, _∙_, subst}
+use mathlib.Core.Path.{_≡_, ap, _∙_, subst}
 use mathlib.Core.List.{List}
 use Prim.Native.Nat.{ℕ, _-_, _≤_, _<_}
 use native.Mathlib.Omega.{arith}
@@ -34,61 +34,68 @@ abbrev μ-loop : tie.MeasureT-loop
 loop-holds : tie.Need-loop-holds Inv-loop μ-loop
 loop-holds c = (omega arith, none)
 
+-- the count is that of the rows
+counted : (c : tie.After-raw-count Inv-loop μ-loop) →
+    let a = c .before .before .args in c .raw-count .result ≡ length (rowsAt (a .st) (words (a .pool .now)) (a .s))
+counted c =
+    let start = c .before .before in
+    let a = start .args in
+    c .raw-count .ensures ∙ head-count (a .st) (words (a .pool .now)) (a .s) (start .pre .0 .0 .limits .wide) (start .pre .1)
+
+-- in a turn there is a row i
+inside : (c : tie.In-loop Inv-loop μ-loop) →
+    let a = c .before .before .before .before .args in c .before .loop .i < length (rowsAt (a .st) (words (a .pool .now)) (a .s))
+inside c = omega (arith, c .loop-test .taken, counted (c .before .before))
+
+-- what is asked of is the child of row i
+named : (c : tie.After-child-of Inv-loop μ-loop) →
+    let loop = c .before .before .before in
+    let a = loop .before .before .before .args in
+    c .child-of .result ≡ childOf (getD (rowsAt (a .st) (words (a .pool .now)) (a .s)) (loop .loop .i) blank)
+named c =
+    let row = c .before in
+    let loop = row .before .before in
+    let count = loop .before in
+    let a = count .before .before .args in
+    c .child-of .ensures ∙ ap childOf (row .raw-row .ensures
+    ∙ row-raw (a .st) (words (a .pool .now)) (a .s) (loop .loop .i) (omega (arith, row .before .loop-test .taken, count .raw-count .ensures)))
+
 raw-row-requires : tie.Need-raw-row-requires Inv-loop μ-loop
 raw-row-requires c κs =
-    let a = c .before .before .before .before .args in
-    let pre = c .before .before .before .before .pre in
-    let n : c .before .before .raw-count .result ≡ length (rowsAt (a .st) (words (a .pool .now)) (a .s)) =
-    c .before .before .raw-count .ensures ∙ head-count (a .st) (words (a .pool .now)) (a .s) (pre .0 .0 .limits .wide) (pre .1) in
-    record { shape = pre .0 .0; slot = pre .0 .1; within = omega (arith, pre .1) }
+    let count = c .before .before in
+    let pre = count .before .before .pre in
+    record { shape = pre .0 .0; slot = pre .0 .1; within = omega (arith, pre .1, counted count) }
 
 returns : tie.Need-returns Inv-loop μ-loop
 returns c =
-    let a = c .before .before .before .before .before .before .before .before .args in
-    let pre = c .before .before .before .before .before .before .before .before .pre in
+    let test = c .before in
+    let turn = test .before .before .before in
+    let loop = turn .before in
+    let a = loop .before .before .before .args in
     let W = words (a .pool .now) in
-    let rs : List Row = rowsAt (a .st) W (a .s) in
-    let count = c .before .before .before .before .before .before .raw-count in
-    let n : count .result ≡ length rs = count .ensures ∙ head-count (a .st) W (a .s) (pre .0 .0 .limits .wide) (pre .1) in
-    let at = c .before .before .before .before .before .loop in
-    let row : c .before .before .before .raw-row .result ≡ getD rs (at .i) blank =
-    c .before .before .before .raw-row .ensures ∙ row-raw (a .st) W (a .s) (at .i) (omega (arith, count .ensures)) in
-    let slot : c .before .before .child-of .result ≡ childOf (getD rs (at .i) blank) = c .before .before .child-of .ensures ∙ ap childOf row in
-    tells-no (λ all. told-no (c .before .there .ensures) (not-true (c .before .there .result) (c .if1 .taken))
-    (rw slot (all-at {P = Child (a .st) W (a .height)} rs (at .i) blank (omega arith) all)))
-
-add-i : tie.Need-add-i Inv-loop μ-loop
-add-i c = omega arith
-
-loop-less : tie.Need-loop-less Inv-loop μ-loop
-loop-less c = omega arith
+    tells-no (λ all. told-no (test .there .ensures) (not-true (test .there .result) (c .if1 .taken))
+    (rw (named (test .before)) (all-at {P = Child (a .st) W (a .height)} (rowsAt (a .st) W (a .s)) (loop .loop .i) blank (inside turn) all)))
 
 loop-again : tie.Need-loop-again Inv-loop μ-loop
 loop-again c =
-    let a = c .before .before .before .before .before .before .before .before .args in
-    let pre = c .before .before .before .before .before .before .before .before .pre in
+    let test = c .before in
+    let turn = test .before .before .before in
+    let loop = turn .before in
+    let a = loop .before .before .before .args in
     let W = words (a .pool .now) in
     let rs : List Row = rowsAt (a .st) W (a .s) in
-    let count = c .before .before .before .before .before .before .raw-count in
-    let n : count .result ≡ length rs = count .ensures ∙ head-count (a .st) W (a .s) (pre .0 .0 .limits .wide) (pre .1) in
-    let at = c .before .before .before .before .before .loop in
-    let row : c .before .before .before .raw-row .result ≡ getD rs (at .i) blank =
-    c .before .before .before .raw-row .ensures ∙ row-raw (a .st) W (a .s) (at .i) (omega (arith, count .ensures)) in
-    let slot : c .before .before .child-of .result ≡ childOf (getD rs (at .i) blank) = c .before .before .child-of .ensures ∙ ap childOf row in
-    let one : Child (a .st) W (a .height) (getD rs (at .i) blank) =
-    subst (There (a .st) W (a .height)) slot (c .before .there .ensures .holds (not-false (c .before .there .result) (c .if1 .left))) in
-    (omega arith, all-more {P = Child (a .st) W (a .height)} rs (at .i) blank (omega arith) (at .inv .1) one)
+    let i : ℕ = loop .loop .i in
+    let one : Child (a .st) W (a .height) (getD rs i blank) =
+    subst (There (a .st) W (a .height)) (named (test .before)) (test .there .ensures .holds (not-false (test .there .result) (c .if1 .left))) in
+    (omega (arith, inside turn), all-more {P = Child (a .st) W (a .height)} rs i blank (inside turn) (loop .loop .inv .1) one)
 
 returns-2 : tie.Need-returns-2 Inv-loop μ-loop
 returns-2 c =
-    let a = c .before .before .before .before .args in
-    let pre = c .before .before .before .before .pre in
+    let loop = c .before in
+    let a = loop .before .before .before .args in
     let W = words (a .pool .now) in
-    let rs : List Row = rowsAt (a .st) W (a .s) in
-    let count = c .before .before .raw-count in
-    let n : count .result ≡ length rs = count .ensures ∙ head-count (a .st) W (a .s) (pre .0 .0 .limits .wide) (pre .1) in
-    let at = c .before .loop in
-    tells-yes (all-past {P = Child (a .st) W (a .height)} rs (at .i) (omega arith) (at .inv .1))
+    tells-yes (all-past {P = Child (a .st) W (a .height)} (rowsAt (a .st) W (a .s)) (loop .loop .i)
+    (omega (arith, c .loop-test .left, counted (loop .before))) (loop .loop .inv .1))
 
 pub children-there-spec : {M : Type 1} → statement M
 children-there-spec =
@@ -102,7 +109,7 @@ children-there-spec =
     (λ c κs. search needs)
     (λ c κs. search needs)
     returns
-    add-i
-    loop-less
+    (λ c. omega arith)
+    (λ c. omega arith)
     loop-again
     returns-2)

@@ -1,5 +1,5 @@
--- `entry_right` meets its contract. Assumes nothing.
-use mathlib.Core.Path.{_≡_, refl, sym, _∙_}
+-- `entry_right` meets its contract: each test decides one part. Assumes nothing.
+use mathlib.Core.Path.{sym, _∙_}
 use mathlib.Core.Bool.{true≢false}
 use native.Mathlib.Omega.{arith}
 use borrow.Author.Tests.{not-true, not-false, ltb-true, lt-ltb}
@@ -13,7 +13,10 @@ returns c = tells-no (λ g. omega (arith, g .fits .size))
 returns-2 : tie.Need-returns-2
 returns-2 c =
     let a = c .before .before .before .args in
-    tells-yes (record { beyond = λ e. absurd (true≢false (sym e ∙ not-true (a .met) (c .if2 .taken))); fits = record { key = omega arith; place = omega arith; size = omega arith } })
+    tells-yes (record {
+      beyond = λ e. absurd (true≢false (sym e ∙ not-true (a .met) (c .if2 .taken)));
+      fits = record { key = omega arith; place = omega arith; size = omega arith };
+    })
 
 returns-3 : tie.Need-returns-3
 returns-3 c =

@@ -1,4 +1,4 @@
--- `grow` meets its contract. Assumes nothing.
+-- `grow` meets its contract: its record is the definition's, with the totals added. Assumes nothing.
 use mathlib.Core.Path.{ap}
 use mathlib.Core.Bool.{true}
 use borrow.Author.Needs.{needs}

@@ -1,7 +1,6 @@
 -- `head_right` meets its contract: each test decides one part of the head. Assumes nothing.
 use Prim.Native.Nat.{_≤_}
 use native.Mathlib.Omega.{arith}
-use borrow.Author.Needs.{needs}
 use borrow.Author.Tests.{leb-true, le-leb}
 use Rattle.words.specs.Words.{words}
 use Rattle.model.proofs.Answers.{tells-no}

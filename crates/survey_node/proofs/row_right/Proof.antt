@@ -1,4 +1,4 @@
--- `row_right` meets its contract. Assumes nothing.
+-- `row_right` meets its contract: each test decides one part. Assumes nothing.
 use mathlib.Core.Path.{sym, _∙_}
 use mathlib.Core.Bool.{true≢false}
 use borrow.Author.Tests.{not-true, not-false}

@@ -36,13 +36,17 @@ returns c =
     let never : (A : Type 0) → false ≡ true → A = λ A e. absurd (true≢false (sym e)) in
     record {
       ok = tells-no (λ z. told-no (c .before .slot-zero .ensures) (not-true (c .before .slot-zero .result) (c .if2 .taken))
-          (z (at .s - 1) (sym (kind-node (a .st) (words (a .pool .now)) (at .s - 1)) ∙ sym (c .before .before .before .raw-kind .ensures) ∙ c .before .before .if1 .taken)));
+          (z (at .s - 1) (sym (kind-node (a .st) (words (a .pool .now)) (at .s - 1)) ∙ sym (c .before .before .before .raw-kind .ensures)
+          ∙ c .before .before .if1 .taken)));
       free = λ e. never _ e;
       low = λ e. never _ e;
     }
 
 add-unused : tie.Need-add-unused Inv-loop μ-loop
-add-unused c = omega (arith, c .before .before .before .before .before .loop .inv .few, c .before .before .before .before .before .before .before .pre .limits .bounded)
+add-unused c =
+    let loop = c .before .before .before .before .before in
+    let start = loop .before .before in
+    omega (arith, loop .loop .inv .few, start .pre .limits .bounded)
 
 loop-less : tie.Need-loop-less Inv-loop μ-loop
 loop-less c = omega arith
@@ -51,7 +55,8 @@ loop-again : tie.Need-loop-again Inv-loop μ-loop
 loop-again c =
     let a = c .before .before .before .before .before .before .before .args in
     let at = c .before .before .before .before .before .loop in
-    swept-unused (a .st) (words (a .pool .now)) (at .unused) (at .low) (at .s) (at .inv) (omega arith) (sym (c .before .before .before .raw-kind .ensures) ∙ c .before .before .if1 .taken)
+    swept-unused (a .st) (words (a .pool .now)) (at .unused) (at .low) (at .s) (at .inv) (omega arith)
+    (sym (c .before .before .before .raw-kind .ensures) ∙ c .before .before .if1 .taken)
     (c .before .slot-zero .ensures .holds (not-false (c .before .slot-zero .result) (c .if2 .left)))
 
 loop-less-2 : tie.Need-loop-less-2 Inv-loop μ-loop

@@ -13,11 +13,12 @@ use Rattle.words.specs.Words.{words}
 use Rattle.slots_raw.specs.declared.Row.{Row}
 use Rattle.slots_raw.specs.Slots.{blank}
 use Rattle.slots.specs.Nodes.{rowsAt}
+use Rattle.model.specs.Answer.{Tells}
 use Rattle.model.proofs.Answers.{told-no}
 use Rattle.model.proofs.Lists.{all-at}
 use Rattle.tree.specs.Bridge.{childOf}
 use Rattle.survey_node.specs.declared.Part.{Part}
-use Rattle.survey_node.specs.Checked.{Last, last, There, Head, Opened, Right, Checked, RowRight}
+use Rattle.survey_node.specs.Checked.{last, There, Head, Tail, Opened, Right, Checked, RowRight}
 use Rattle.survey_node.proofs.Rows.{right-rows, right-opened, right-tail}
 use Rattle.survey_node.proofs.Walks.{Going, going-none, checked-not, checked-end, turn-fault, turn-addable, turn-on}
 use Rattle.survey_node.proofs.Heads.{row-raw, head-count, tail-told}
@@ -79,178 +80,226 @@ abbrev μ : check-interior-lts.MeasureT-loop
 
 -- what the calls ask for and tell
 abbrev interior-calls : ℕ → check-interior-lts.Claims
-interior-calls t =
-    (interior-right-reads.Asked, interior-right-reads.Learnt, fault-reads.Asked, fault-reads.Learnt, raw-count-reads.Asked, raw-count-reads.Learnt, begin-reads.Asked, begin-reads.Learnt, raw-row-reads.Asked, raw-row-reads.Learnt, child-of-reads.Asked, child-of-reads.Learnt, check-node-below t, check-node.Post, row-right-reads.Asked, row-right-reads.Learnt, grow-reads.Asked, grow-reads.Learnt, tail-zero-reads.Asked, tail-zero-reads.Learnt)
+interior-calls t = (
+  interior-right-reads.Asked,
+  interior-right-reads.Learnt,
+  fault-reads.Asked,
+  fault-reads.Learnt,
+  raw-count-reads.Asked,
+  raw-count-reads.Learnt,
+  begin-reads.Asked,
+  begin-reads.Learnt,
+  raw-row-reads.Asked,
+  raw-row-reads.Learnt,
+  child-of-reads.Asked,
+  child-of-reads.Learnt,
+  check-node-below t,
+  check-node.Post,
+  row-right-reads.Asked,
+  row-right-reads.Learnt,
+  grow-reads.Asked,
+  grow-reads.Learnt,
+  tail-zero-reads.Asked,
+  tail-zero-reads.Learnt,
+)
 
 abbrev node-calls : ℕ → check-node-lts.Claims
 node-calls t = (check-leaf-reads.Asked, check-leaf-reads.Learnt, check-interior-below t, check-interior.Post)
 
 -- check_interior
 
+-- behind the first test the head is right, and so is each child's
+opened : (t : ℕ) (c : check-interior-lts.Else1 (interior-calls t) (check-interior-at t) check-interior.Post Inv μ) →
+    let a = c .before .before .before .args in Opened (a .st) (words (a .pool .now)) (a .height) (a .s) (a .least) (a .left)
+opened t c = c .before .interior-right .ensures .holds (not-false (c .before .interior-right .result) (c .if1 .left))
+
+-- the count is that of the rows
+counted : (t : ℕ) (c : check-interior-lts.After-raw-count (interior-calls t) (check-interior-at t) check-interior.Post Inv μ) →
+    let a = c .before .before .before .before .args in c .raw-count .result ≡ length (rowsAt (a .st) (words (a .pool .now)) (a .s))
+counted t c =
+    let start = c .before .before .before .before in
+    let a = start .args in
+    c .raw-count .ensures ∙ head-count (a .st) (words (a .pool .now)) (a .s) (start .pre .1 .0 .limits .wide) (opened t (c .before) .head .few)
+
+-- in a turn there is a row i
+inside : (t : ℕ) (c : check-interior-lts.In-loop (interior-calls t) (check-interior-at t) check-interior.Post Inv μ) →
+    let a = c .before .before .before .before .before .before .before .args in c .before .loop .i < length (rowsAt (a .st) (words (a .pool .now)) (a .s))
+inside t c = omega (arith, c .loop-test .taken, counted t (c .before .before .before))
+
+-- what is read is row i
+read : (t : ℕ) (c : check-interior-lts.After-raw-row (interior-calls t) (check-interior-at t) check-interior.Post Inv μ) →
+    let loop = c .before .before in
+    let a = loop .before .before .before .before .before .before .args in
+    c .raw-row .result ≡ getD (rowsAt (a .st) (words (a .pool .now)) (a .s)) (loop .loop .i) blank
+read t c =
+    let loop = c .before .before in
+    let count = loop .before .before in
+    let a = count .before .before .before .before .args in
+    c .raw-row .ensures ∙ row-raw (a .st) (words (a .pool .now)) (a .s) (loop .loop .i) (omega (arith, c .before .loop-test .taken, count .raw-count .ensures))
+
+-- what is checked is the child of row i
+checked : (t : ℕ) (c : check-interior-lts.After-check-node (interior-calls t) (check-interior-at t) check-interior.Post Inv μ) →
+    let loop = c .before .before .before .before in
+    let a = loop .before .before .before .before .before .before .args in
+    let W = words (a .pool .now) in
+    let at = loop .loop in
+    Checked (a .st) W (a .height - 1) (childOf (getD (rowsAt (a .st) W (a .s)) (at .i) blank)) 1 (last (at .met) (at .part .last)) (at .part .left)
+    (c .check-node .result)
+checked t c =
+    let row = c .before .before in
+    let loop = row .before .before in
+    let a = loop .before .before .before .before .before .before .args in
+    let at = loop .loop in
+    subst (λ (s : ℕ). Checked (a .st) (words (a .pool .now)) (a .height - 1) s 1 (last (at .met) (at .part .last)) (at .part .left) (c .check-node .result))
+    (c .before .child-of .ensures ∙ ap childOf (read t row)) (c .check-node .ensures)
+
+-- behind the second test the row is that of the child
+right : (t : ℕ) (c : check-interior-lts.Else2 (interior-calls t) (check-interior-at t) check-interior.Post Inv μ) →
+    let walked = c .before .before in
+    let loop = walked .before .before .before .before in
+    let a = loop .before .before .before .before .before .before .args in
+    RowRight (getD (rowsAt (a .st) (words (a .pool .now)) (a .s)) (loop .loop .i) blank) (walked .check-node .result)
+right t c =
+    let test = c .before .row-right in
+    let walked = c .before .before in
+    subst (λ (r : Row). RowRight r (walked .check-node .result)) (read t (walked .before .before))
+    (test .ensures .holds (not-false (test .result) (c .if2 .left)))
+
+-- the test of the tail tells of it
+tail : (t : ℕ) (c : check-interior-lts.After-tail-zero (interior-calls t) (check-interior-at t) check-interior.Post Inv μ) →
+    let a = c .before .before .before .before .before .before .before .before .args in Tells (c .tail-zero .result) (Tail (a .st) (words (a .pool .now)) (a .s))
+tail t c =
+    let count = c .before .before .before .before in
+    let a = count .before .before .before .before .args in
+    tail-told (a .st) (words (a .pool .now)) (a .s) (count .raw-count .result) (c .tail-zero .result) (count .raw-count .ensures)
+    (omega (arith, counted t count, opened t (count .before) .head .few)) (c .tail-zero .ensures)
+
 returns : (t : ℕ) → check-interior-lts.Need-returns (interior-calls t) (check-interior-at t) check-interior.Post Inv μ
 returns t c =
-    let a = c .before .before .before .before .args in
+    let test = c .before .before in
+    let start = test .before .before in
+    let a = start .args in
     let W = words (a .pool .now) in
-    let high : a .height ≡ suc (a .height - 1) = omega (arith, c .before .before .before .before .pre .1 .1 .1) in
+    let high : a .height ≡ suc (a .height - 1) = omega (arith, start .pre .1 .1 .1) in
     checked-not (a .st) W (a .height) (a .s) (a .least) (last (a .some) (a .key)) (a .left) (c .fault .result) (c .fault .ensures)
-    (λ k. told-no (c .before .before .interior-right .ensures) (not-true (c .before .before .interior-right .result) (c .before .if1 .taken))
+    (λ k. told-no (test .interior-right .ensures) (not-true (test .interior-right .result) (c .before .if1 .taken))
     (subst (λ (h : ℕ). Opened (a .st) W h (a .s) (a .least) (a .left)) (sym high)
     (right-opened (a .st) W (a .height - 1) (a .s) (a .least) (last (a .some) (a .key)) (a .left)
     (subst (λ (h : ℕ). Right (a .st) W h (a .s) (a .least) (last (a .some) (a .key)) (a .left)) high k))))
 
 raw-count-requires : (t : ℕ) → check-interior-lts.Need-raw-count-requires (interior-calls t) (check-interior-at t) check-interior.Post Inv μ
-raw-count-requires t c κs =
-    let a = c .before .before .before .args in
-    let W = words (a .pool .now) in
-    let rs : List Row = rowsAt (a .st) W (a .s) in
-    let head : Head (a .st) W (a .height) (a .s) (a .least) (a .left) = (c .before .interior-right .ensures .holds (not-false (c .before .interior-right .result) (c .if1 .left))) .head in
-    (c .before .before .before .pre .1 .0, head .there .slot)
+raw-count-requires t c κs = (c .before .before .before .pre .1 .0, opened t c .head .there .slot)
 
 sub-begin : (t : ℕ) → check-interior-lts.Need-sub-begin (interior-calls t) (check-interior-at t) check-interior.Post Inv μ
-sub-begin t c =
-    let a = c .before .before .before .before .args in
-    let W = words (a .pool .now) in
-    let rs : List Row = rowsAt (a .st) W (a .s) in
-    let head : Head (a .st) W (a .height) (a .s) (a .least) (a .left) = (c .before .before .interior-right .ensures .holds (not-false (c .before .before .interior-right .result) (c .before .if1 .left))) .head in
-    omega (arith, head .opens)
+sub-begin t c = omega (arith, opened t (c .before) .head .opens)
 
 loop-holds : (t : ℕ) → check-interior-lts.Need-loop-holds (interior-calls t) (check-interior-at t) check-interior.Post Inv μ
 loop-holds t c =
     let a = c .before .before .before .before .before .args in
     let W = words (a .pool .now) in
-    let rs : List Row = rowsAt (a .st) W (a .s) in
-    rw (c .begin .ensures) (going-none (a .st) W (suc (a .height - 1)) rs (a .some) (a .key) (a .left - 1))
+    rw (c .begin .ensures) (going-none (a .st) W (suc (a .height - 1)) (rowsAt (a .st) W (a .s)) (a .some) (a .key) (a .left - 1))
 
 raw-row-requires : (t : ℕ) → check-interior-lts.Need-raw-row-requires (interior-calls t) (check-interior-at t) check-interior.Post Inv μ
 raw-row-requires t c κs =
-    let a = c .before .before .before .before .before .before .before .args in
-    let W = words (a .pool .now) in
-    let rs : List Row = rowsAt (a .st) W (a .s) in
-    let head : Head (a .st) W (a .height) (a .s) (a .least) (a .left) = (c .before .before .before .before .before .interior-right .ensures .holds (not-false (c .before .before .before .before .before .interior-right .result) (c .before .before .before .before .if1 .left))) .head in
-    let n : c .before .before .before .raw-count .result ≡ length rs = c .before .before .before .raw-count .ensures ∙ head-count (a .st) W (a .s) (c .before .before .before .before .before .before .before .pre .1 .0 .limits .wide) (head .few) in
-    record { shape = c .before .before .before .before .before .before .before .pre .1 .0; slot = head .there .slot; within = omega (arith, head .few) }
+    let count = c .before .before .before in
+    let head = opened t (count .before) .head in
+    record { shape = count .before .before .before .before .pre .1 .0; slot = head .there .slot; within = omega (arith, head .few, counted t count) }
 
 sub-check-node : (t : ℕ) → check-interior-lts.Need-sub-check-node (interior-calls t) (check-interior-at t) check-interior.Post Inv μ
 sub-check-node t c = omega (arith, c .before .before .before .before .before .before .before .before .pre .1 .1 .1)
 
 check-node-requires : (t : ℕ) → check-interior-lts.Need-check-node-requires (interior-calls t) (check-interior-at t) check-interior.Post Inv μ
 check-node-requires t c κs =
-    let a = c .before .before .before .before .before .before .before .before .before .args in
-    let pre = c .before .before .before .before .before .before .before .before .before .pre in
+    let row = c .before in
+    let loop = row .before .before in
+    let tested = loop .before .before .before in
+    let start = tested .before .before .before in
+    let a = start .args in
+    let pre = start .pre in
     let W = words (a .pool .now) in
     let rs : List Row = rowsAt (a .st) W (a .s) in
-    let opened : Opened (a .st) W (a .height) (a .s) (a .least) (a .left) = c .before .before .before .before .before .before .before .interior-right .ensures .holds (not-false (c .before .before .before .before .before .before .before .interior-right .result) (c .before .before .before .before .before .before .if1 .left)) in
-    let count = c .before .before .before .before .before .raw-count in
-    let n : count .result ≡ length rs = count .ensures ∙ head-count (a .st) W (a .s) (pre .1 .0 .limits .wide) (opened .head .few) in
-    let at = c .before .before .before .loop in
-    let row : c .before .raw-row .result ≡ getD rs (at .i) blank = c .before .raw-row .ensures ∙ row-raw (a .st) W (a .s) (at .i) (omega (arith, count .ensures)) in
-    let slot : c .child-of .result ≡ childOf (getD rs (at .i) blank) = c .child-of .ensures ∙ ap childOf row in
-    let there : There (a .st) W (a .height - 1) (childOf (getD rs (at .i) blank)) =
-    all-at {P = λ (r : Row). There (a .st) W (a .height - 1) (childOf r)} rs (at .i) blank (omega arith) (opened .children) in
+    let i : ℕ = loop .loop .i in
+    let slot : c .child-of .result ≡ childOf (getD rs i blank) = c .child-of .ensures ∙ ap childOf (read t row) in
+    let there : There (a .st) W (a .height - 1) (childOf (getD rs i blank)) =
+    all-at {P = λ (r : Row). There (a .st) W (a .height - 1) (childOf r)} rs i blank (inside t (row .before)) (opened t tested .children) in
     (omega (arith, pre .0, pre .1 .1 .1), (pre .1 .0, rw slot there))
 
 returns-2 : (t : ℕ) → check-interior-lts.Need-returns-2 (interior-calls t) (check-interior-at t) check-interior.Post Inv μ
 returns-2 t c =
-    let a = c .before .before .before .before .before .before .before .before .before .before .before .before .before .args in
+    let test = c .before .before in
+    let walked = test .before in
+    let row = walked .before .before in
+    let loop = row .before .before in
+    let start = loop .before .before .before .before .before .before in
+    let a = start .args in
     let W = words (a .pool .now) in
     let rs : List Row = rowsAt (a .st) W (a .s) in
-    let head : Head (a .st) W (a .height) (a .s) (a .least) (a .left) = (c .before .before .before .before .before .before .before .before .before .before .before .interior-right .ensures .holds (not-false (c .before .before .before .before .before .before .before .before .before .before .before .interior-right .result) (c .before .before .before .before .before .before .before .before .before .before .if1 .left))) .head in
-    let n : c .before .before .before .before .before .before .before .before .before .raw-count .result ≡ length rs = c .before .before .before .before .before .before .before .before .before .raw-count .ensures ∙ head-count (a .st) W (a .s) (c .before .before .before .before .before .before .before .before .before .before .before .before .before .pre .1 .0 .limits .wide) (head .few) in
-    let at = c .before .before .before .before .before .before .before .loop in
-    let q : Last = last (at .met) (at .part .last) in
-    let child : Part = c .before .before .before .check-node .result in
-    let lt : at .i < length rs = omega arith in
-    let row : c .before .before .before .before .before .raw-row .result ≡ getD rs (at .i) blank = c .before .before .before .before .before .raw-row .ensures ∙ row-raw (a .st) W (a .s) (at .i) (omega (arith, c .before .before .before .before .before .before .before .before .before .raw-count .ensures)) in
-    let slot : c .before .before .before .before .child-of .result ≡ childOf (getD rs (at .i) blank) = c .before .before .before .before .child-of .ensures ∙ ap childOf row in
-    let chk : Checked (a .st) W (a .height - 1) (childOf (getD rs (at .i) blank)) 1 q (at .part .left) child =
-    subst (λ (s : ℕ). Checked (a .st) W (a .height - 1) s 1 q (at .part .left) child) slot (c .before .before .before .check-node .ensures) in
-    let high : a .height ≡ suc (a .height - 1) = omega (arith, c .before .before .before .before .before .before .before .before .before .before .before .before .before .pre .1 .1 .1) in
+    let at = loop .loop in
+    let child : Part = walked .check-node .result in
+    let high : a .height ≡ suc (a .height - 1) = omega (arith, start .pre .1 .1 .1) in
     let wrong : RowRight (getD rs (at .i) blank) child → ⊥ =
-    λ k. told-no (c .before .before .row-right .ensures) (not-true (c .before .before .row-right .result) (c .before .if2 .taken)) (rw row k) in
+    λ k. told-no (test .row-right .ensures) (not-true (test .row-right .result) (c .before .if2 .taken)) (rw (read t row) k) in
     checked-not (a .st) W (a .height) (a .s) (a .least) (last (a .some) (a .key)) (a .left) (c .fault2 .result) (c .fault2 .ensures)
-    (λ k. turn-fault (a .st) W (a .height - 1) rs (last (a .some) (a .key)) (a .left - 1) (at .i) (at .met) (at .part) child (at .inv) lt chk wrong
+    (λ k. turn-fault (a .st) W (a .height - 1) rs (last (a .some) (a .key)) (a .left - 1) (at .i) (at .met) (at .part) child (at .inv)
+    (inside t (row .before)) (checked t walked) wrong
     (right-rows (a .st) W (suc (a .height - 1)) (a .s) (a .least) (last (a .some) (a .key)) (a .left)
     (subst (λ (h : ℕ). Right (a .st) W h (a .s) (a .least) (last (a .some) (a .key)) (a .left)) high k)))
 
 grow-requires : (t : ℕ) → check-interior-lts.Need-grow-requires (interior-calls t) (check-interior-at t) check-interior.Post Inv μ
 grow-requires t c κs =
-    let a = c .before .before .before .before .before .before .before .before .before .before .before .before .args in
+    let walked = c .before .before in
+    let loop = walked .before .before .before .before in
+    let tested = loop .before .before .before in
+    let start = tested .before .before .before in
+    let a = start .args in
     let W = words (a .pool .now) in
-    let rs : List Row = rowsAt (a .st) W (a .s) in
-    let head : Head (a .st) W (a .height) (a .s) (a .least) (a .left) = (c .before .before .before .before .before .before .before .before .before .before .interior-right .ensures .holds (not-false (c .before .before .before .before .before .before .before .before .before .before .interior-right .result) (c .before .before .before .before .before .before .before .before .before .if1 .left))) .head in
-    let n : c .before .before .before .before .before .before .before .before .raw-count .result ≡ length rs = c .before .before .before .before .before .before .before .before .raw-count .ensures ∙ head-count (a .st) W (a .s) (c .before .before .before .before .before .before .before .before .before .before .before .before .pre .1 .0 .limits .wide) (head .few) in
-    let at = c .before .before .before .before .before .before .loop in
-    let q : Last = last (at .met) (at .part .last) in
-    let child : Part = c .before .before .check-node .result in
-    let lt : at .i < length rs = omega arith in
-    let row : c .before .before .before .before .raw-row .result ≡ getD rs (at .i) blank = c .before .before .before .before .raw-row .ensures ∙ row-raw (a .st) W (a .s) (at .i) (omega (arith, c .before .before .before .before .before .before .before .before .raw-count .ensures)) in
-    let slot : c .before .before .before .child-of .result ≡ childOf (getD rs (at .i) blank) = c .before .before .before .child-of .ensures ∙ ap childOf row in
-    let chk : Checked (a .st) W (a .height - 1) (childOf (getD rs (at .i) blank)) 1 q (at .part .left) child =
-    subst (λ (s : ℕ). Checked (a .st) W (a .height - 1) s 1 q (at .part .left) child) slot (c .before .before .check-node .ensures) in
-    let told : RowRight (getD rs (at .i) blank) child =
-    subst (λ (r : Row). RowRight r child) row (c .before .row-right .ensures .holds (not-false (c .before .row-right .result) (c .if2 .left))) in
-    turn-addable (a .st) W (a .height - 1) rs (last (a .some) (a .key)) (a .left - 1) (at .i) (at .met) (at .part) child (at .inv) lt chk told
-    (omega (arith, head .few, c .before .before .before .before .before .before .before .before .before .before .before .before .pre .1 .0 .limits .narrow))
-
-add-i : (t : ℕ) → check-interior-lts.Need-add-i (interior-calls t) (check-interior-at t) check-interior.Post Inv μ
-add-i t c = omega arith
-
-loop-less : (t : ℕ) → check-interior-lts.Need-loop-less (interior-calls t) (check-interior-at t) check-interior.Post Inv μ
-loop-less t c = omega arith
+    let at = loop .loop in
+    turn-addable (a .st) W (a .height - 1) (rowsAt (a .st) W (a .s)) (last (a .some) (a .key)) (a .left - 1) (at .i) (at .met) (at .part)
+    (walked .check-node .result) (at .inv) (inside t (walked .before .before .before)) (checked t walked) (right t c)
+    (omega (arith, opened t tested .head .few, inside t (walked .before .before .before), start .pre .1 .0 .limits .narrow))
 
 loop-again : (t : ℕ) → check-interior-lts.Need-loop-again (interior-calls t) (check-interior-at t) check-interior.Post Inv μ
 loop-again t c =
-    let a = c .before .before .before .before .before .before .before .before .before .before .before .before .before .args in
+    let tested = c .before in
+    let walked = tested .before .before in
+    let row = walked .before .before in
+    let loop = row .before .before in
+    let a = loop .before .before .before .before .before .before .args in
     let W = words (a .pool .now) in
-    let rs : List Row = rowsAt (a .st) W (a .s) in
-    let head : Head (a .st) W (a .height) (a .s) (a .least) (a .left) = (c .before .before .before .before .before .before .before .before .before .before .before .interior-right .ensures .holds (not-false (c .before .before .before .before .before .before .before .before .before .before .before .interior-right .result) (c .before .before .before .before .before .before .before .before .before .before .if1 .left))) .head in
-    let n : c .before .before .before .before .before .before .before .before .before .raw-count .result ≡ length rs = c .before .before .before .before .before .before .before .before .before .raw-count .ensures ∙ head-count (a .st) W (a .s) (c .before .before .before .before .before .before .before .before .before .before .before .before .before .pre .1 .0 .limits .wide) (head .few) in
-    let at = c .before .before .before .before .before .before .before .loop in
-    let q : Last = last (at .met) (at .part .last) in
-    let child : Part = c .before .before .before .check-node .result in
-    let lt : at .i < length rs = omega arith in
-    let row : c .before .before .before .before .before .raw-row .result ≡ getD rs (at .i) blank = c .before .before .before .before .before .raw-row .ensures ∙ row-raw (a .st) W (a .s) (at .i) (omega (arith, c .before .before .before .before .before .before .before .before .before .raw-count .ensures)) in
-    let slot : c .before .before .before .before .child-of .result ≡ childOf (getD rs (at .i) blank) = c .before .before .before .before .child-of .ensures ∙ ap childOf row in
-    let chk : Checked (a .st) W (a .height - 1) (childOf (getD rs (at .i) blank)) 1 q (at .part .left) child =
-    subst (λ (s : ℕ). Checked (a .st) W (a .height - 1) s 1 q (at .part .left) child) slot (c .before .before .before .check-node .ensures) in
-    let told : RowRight (getD rs (at .i) blank) child =
-    subst (λ (r : Row). RowRight r child) row (c .before .before .row-right .ensures .holds (not-false (c .before .before .row-right .result) (c .before .if2 .left))) in
-    rw (c .grow .ensures, row)
-    (turn-on (a .st) W (a .height - 1) rs (last (a .some) (a .key)) (a .left - 1) (at .i) (at .met) (at .part) child (at .inv) lt chk told)
+    let at = loop .loop in
+    rw (c .grow .ensures, read t row)
+    (turn-on (a .st) W (a .height - 1) (rowsAt (a .st) W (a .s)) (last (a .some) (a .key)) (a .left - 1) (at .i) (at .met) (at .part)
+    (walked .check-node .result) (at .inv) (inside t (row .before)) (checked t walked) (right t tested))
 
 tail-zero-requires : (t : ℕ) → check-interior-lts.Need-tail-zero-requires (interior-calls t) (check-interior-at t) check-interior.Post Inv μ
 tail-zero-requires t c κs =
-    let a = c .before .before .before .before .before .before .before .args in
-    let W = words (a .pool .now) in
-    let rs : List Row = rowsAt (a .st) W (a .s) in
-    let head : Head (a .st) W (a .height) (a .s) (a .least) (a .left) = (c .before .before .before .before .before .interior-right .ensures .holds (not-false (c .before .before .before .before .before .interior-right .result) (c .before .before .before .before .if1 .left))) .head in
-    let n : c .before .before .before .raw-count .result ≡ length rs = c .before .before .before .raw-count .ensures ∙ head-count (a .st) W (a .s) (c .before .before .before .before .before .before .before .pre .1 .0 .limits .wide) (head .few) in
-    ((c .before .before .before .before .before .before .before .pre .1 .0, head .there .slot), omega (arith, head .few))
+    let count = c .before .before .before in
+    let head = opened t (count .before) .head in
+    ((count .before .before .before .before .pre .1 .0, head .there .slot), omega (arith, head .few, counted t count))
 
 returns-3 : (t : ℕ) → check-interior-lts.Need-returns-3 (interior-calls t) (check-interior-at t) check-interior.Post Inv μ
 returns-3 t c =
-    let a = c .before .before .before .before .before .before .before .before .before .before .args in
+    let test = c .before .before in
+    let a = test .before .before .before .before .before .before .before .before .args in
     let W = words (a .pool .now) in
-    let rs : List Row = rowsAt (a .st) W (a .s) in
-    let head : Head (a .st) W (a .height) (a .s) (a .least) (a .left) = (c .before .before .before .before .before .before .before .before .interior-right .ensures .holds (not-false (c .before .before .before .before .before .before .before .before .interior-right .result) (c .before .before .before .before .before .before .before .if1 .left))) .head in
-    let n : c .before .before .before .before .before .before .raw-count .result ≡ length rs = c .before .before .before .before .before .before .raw-count .ensures ∙ head-count (a .st) W (a .s) (c .before .before .before .before .before .before .before .before .before .before .pre .1 .0 .limits .wide) (head .few) in
-    let told = tail-told (a .st) W (a .s) (c .before .before .before .before .before .before .raw-count .result) (c .before .before .tail-zero .result) (c .before .before .before .before .before .before .raw-count .ensures) (omega (arith, head .few)) (c .before .before .tail-zero .ensures) in
     checked-not (a .st) W (a .height) (a .s) (a .least) (last (a .some) (a .key)) (a .left) (c .fault3 .result) (c .fault3 .ensures)
-    (λ k. told-no told (not-true (c .before .before .tail-zero .result) (c .before .if3 .taken)) (right-tail (a .st) W (a .height) (a .s) (a .least) (last (a .some) (a .key)) (a .left) k))
+    (λ k. told-no (tail t test) (not-true (test .tail-zero .result) (c .before .if3 .taken))
+    (right-tail (a .st) W (a .height) (a .s) (a .least) (last (a .some) (a .key)) (a .left) k))
 
 returns-4 : (t : ℕ) → check-interior-lts.Need-returns-4 (interior-calls t) (check-interior-at t) check-interior.Post Inv μ
 returns-4 t c =
-    let a = c .before .before .before .before .before .before .before .before .before .args in
+    let test = c .before in
+    let loop = test .before .before in
+    let count = loop .before .before in
+    let start = count .before .before .before .before in
+    let a = start .args in
     let W = words (a .pool .now) in
-    let rs : List Row = rowsAt (a .st) W (a .s) in
-    let head : Head (a .st) W (a .height) (a .s) (a .least) (a .left) = (c .before .before .before .before .before .before .before .interior-right .ensures .holds (not-false (c .before .before .before .before .before .before .before .interior-right .result) (c .before .before .before .before .before .before .if1 .left))) .head in
-    let n : c .before .before .before .before .before .raw-count .result ≡ length rs = c .before .before .before .before .before .raw-count .ensures ∙ head-count (a .st) W (a .s) (c .before .before .before .before .before .before .before .before .before .pre .1 .0 .limits .wide) (head .few) in
-    let high : a .height ≡ suc (a .height - 1) = omega (arith, c .before .before .before .before .before .before .before .before .before .pre .1 .1 .1) in
-    let at = c .before .before .before .loop in
-    let told = tail-told (a .st) W (a .s) (c .before .before .before .before .before .raw-count .result) (c .before .tail-zero .result) (c .before .before .before .before .before .raw-count .ensures) (omega (arith, head .few)) (c .before .tail-zero .ensures) in
+    let high : a .height ≡ suc (a .height - 1) = omega (arith, start .pre .1 .1 .1) in
+    let at = loop .loop in
     subst (λ (h : ℕ). Checked (a .st) W h (a .s) (a .least) (last (a .some) (a .key)) (a .left) (at .part)) (sym high)
     (checked-end (a .st) W (suc (a .height - 1)) (a .s) (a .least) (last (a .some) (a .key)) (a .left) (at .i) (at .met) (at .part)
-    (subst (λ (h : ℕ). Head (a .st) W h (a .s) (a .least) (a .left)) high head) (told .holds (not-false (c .before .tail-zero .result) (c .if3 .left))) (at .inv) (omega arith))
+    (subst (λ (h : ℕ). Head (a .st) W h (a .s) (a .least) (a .left)) high (opened t (count .before) .head))
+    (tail t test .holds (not-false (test .tail-zero .result) (c .if3 .left))) (at .inv) (omega (arith, counted t count, test .before .loop-test .left)))
 
 -- check_node
 
@@ -263,8 +312,8 @@ node-check-leaf-requires t c κs =
 node-returns : (t : ℕ) → check-node-lts.Need-returns (node-calls t) (check-node-at t) check-node.Post
 node-returns t c =
     let a = c .before .before .before .args in
-    subst (λ (h : ℕ). Checked (a .st) (words (a .pool .now)) h (a .s) (a .least) (last (a .some) (a .key)) (a .left) (c .check-leaf .result)) (sym (c .before .if1 .taken))
-    (c .check-leaf .ensures)
+    subst (λ (h : ℕ). Checked (a .st) (words (a .pool .now)) h (a .s) (a .least) (last (a .some) (a .key)) (a .left) (c .check-leaf .result))
+    (sym (c .before .if1 .taken)) (c .check-leaf .ensures)
 
 node-check-interior-requires : (t : ℕ) → check-node-lts.Need-check-interior-requires (node-calls t) (check-node-at t) check-node.Post
 node-check-interior-requires t c κs =
@@ -296,8 +345,8 @@ pub +check-interior+check-node-spec : {M : Type 1} → statement M
     (λ c κs. search needs)
     (returns-2 t)
     (grow-requires t)
-    (add-i t)
-    (loop-less t)
+    (λ c. omega arith)
+    (λ c. omega arith)
     (loop-again t)
     (tail-zero-requires t)
     (λ c κs. search needs)

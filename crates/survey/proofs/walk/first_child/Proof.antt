@@ -1,5 +1,5 @@
--- `first_child` meets its contract. Assumes nothing.
-use mathlib.Core.Path.{_≡_, sym, ap, _∙_}
+-- `first_child` meets its contract: the first row is the one that is read, where there is a row. Assumes nothing.
+use mathlib.Core.Path.{sym, ap, _∙_}
 use native.Mathlib.Omega.{arith}
 use borrow.Author.Needs.{needs}
 use Rattle.words.specs.Words.{words}
@@ -9,16 +9,20 @@ use Rattle.survey.proofs.walk.first_child.Statement.{statement}
 use Rattle.survey.proofs.walk.first_child.Tie as tie
 
 returns : tie.Need-returns
-returns c = let a = c .before .before .before .args in sym (first-none (a .st) (words (a .pool .now)) (a .s) (sym (c .before .raw-count .ensures) ∙ c .if1 .taken))
+returns c =
+    let a = c .before .before .before .args in sym (first-none (a .st) (words (a .pool .now)) (a .s) (sym (c .before .raw-count .ensures) ∙ c .if1 .taken))
 
 raw-row-requires : tie.Need-raw-row-requires
-raw-row-requires c κs = record { shape = c .before .before .before .pre .0; slot = c .before .before .before .pre .1; within = omega (arith, c .before .before .before .pre .0 .limits .wide) }
+raw-row-requires c κs =
+    let start = c .before .before .before in
+    record { shape = start .pre .0; slot = start .pre .1; within = omega (arith, start .pre .0 .limits .wide) }
 
 returns-2 : tie.Need-returns-2
 returns-2 c =
-    let a = c .before .before .before .before .before .args in
+    let start = c .before .before .before .before .before in
+    let a = start .args in
     c .child-of .ensures ∙ ap childOf (c .before .raw-row .ensures)
-    ∙ first-raw (a .st) (words (a .pool .now)) (a .s) (c .before .before .before .before .before .pre .0 .limits .wide) (omega (arith, c .before .before .before .raw-count .ensures))
+    ∙ first-raw (a .st) (words (a .pool .now)) (a .s) (start .pre .0 .limits .wide) (omega (arith, c .before .before .before .raw-count .ensures))
 
 pub first-child-spec : {M : Type 1} → statement M
 first-child-spec =

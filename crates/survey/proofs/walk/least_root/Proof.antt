@@ -1,4 +1,4 @@
--- `least_root` meets its contract. Assumes nothing.
+-- `least_root` meets its contract: its test is the definition's. Assumes nothing.
 use mathlib.Core.Path.{_≡_, refl}
 use Prim.Native.Nat.{ℕ, zero, suc}
 use borrow.Author.Needs.{needs}

@@ -1,5 +1,5 @@
 -- `left_edge` meets its contract. The loop's invariant: the height from slot 0 is the steps taken and the height from here. Assumes nothing.
-use mathlib.Core.Path.{_≡_, refl, sym, ap, _∙_}
+use mathlib.Core.Path.{_≡_, sym, ap, _∙_}
 use mathlib.Core.List.{List}
 use Prim.Native.Nat.{ℕ, suc, _+_, _-_, _≤_}
 use native.Mathlib.Omega.{arith}
@@ -9,7 +9,7 @@ use Rattle.words.specs.Words.{words}
 use Rattle.slots.specs.Nodes as S
 use Rattle.slots.specs.Nodes.{nodes, nth}
 use Rattle.slots.proofs.Nodes.{kind-node, length-nodes}
-use Rattle.tree.specs.Pool.{heightAt, firstChild}
+use Rattle.tree.specs.Pool.{heightAt}
 use Rattle.survey.proofs.Edges.{edge-end, edge-past, edge-down}
 use Rattle.survey.proofs.walk.left_edge.Statement.{statement}
 use Rattle.survey.proofs.walk.left_edge.Tie as tie
@@ -37,7 +37,12 @@ returns-2 c =
     let a = c .before .before .before .before .before .before .before .args in
     let at = c .before .before .before .before .before .loop in
     let W = words (a .pool .now) in
-    omega (arith, at .inv .1, edge-end (nodes (a .st) W) (8 - at .height) (at .s) (λ e. c .if2 .taken (c .before .raw-kind .ensures ∙ kind-node (a .st) W (at .s) ∙ e)))
+    omega (
+      arith,
+      at .inv .1,
+      edge-end (nodes (a .st) W) (8 - at .height) (at .s)
+          (λ e. c .if2 .taken (c .before .raw-kind .ensures ∙ kind-node (a .st) W (at .s) ∙ e)),
+    )
 
 add-height : tie.Need-add-height Inv-loop μ-loop
 add-height c = omega arith

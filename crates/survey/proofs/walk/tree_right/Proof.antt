@@ -22,23 +22,32 @@ returns-2 c =
 
 check-node-requires : tie.Need-check-node-requires
 check-node-requires c κs =
-    (c .before .before .before .before .before .pre .0, c .before .before .there .ensures .holds (not-false (c .before .before .there .result) (c .before .if2 .left)))
+    let test = c .before .before in
+    let start = test .before .before .before in
+    (start .pre .0, test .there .ensures .holds (not-false (test .there .result) (c .before .if2 .left)))
 
 returns-3 : tie.Need-returns-3
 returns-3 c =
-    let a = c .before .before .before .before .before .before .before .before .args in
-    let walk = c .before .before .check-node in
+    let walked = c .before .before in
+    let least = walked .before in
+    let start = least .before .before .before .before .before in
+    let a = start .args in
+    let walk = walked .check-node in
     let chk : Checked (a .st) (words (a .pool .now)) (a .height) 0 (leastRoot (a .height)) unmet (a .used) (walk .result) =
-    rw (c .before .before .before .least-root .ensures) at (walk .ensures) in
-    tells-no (verdict-fault (a .st) (words (a .pool .now)) (a .used) (c .before .before .before .before .before .before .before .before .pre .1 .used) (a .height) (walk .result) (c .before .before .before .before .before .before .before .before .pre .1 .height) chk (not-true (walk .result .ok) (c .if3 .taken)))
+    rw (least .least-root .ensures) at (walk .ensures) in
+    tells-no (verdict-fault (a .st) (words (a .pool .now)) (a .used) (start .pre .1 .used) (a .height) (walk .result) (start .pre .1 .height) chk
+    (not-true (walk .result .ok) (c .if3 .taken)))
 
 returns-4 : tie.Need-returns-4
 returns-4 c =
-    let a = c .before .before .before .before .before .before .before .before .before .args in
-    let walk = c .before .before .before .check-node in
+    let walked = c .before .before .before in
+    let least = walked .before in
+    let start = least .before .before .before .before .before in
+    let a = start .args in
+    let walk = walked .check-node in
     let chk : Checked (a .st) (words (a .pool .now)) (a .height) 0 (leastRoot (a .height)) unmet (a .used) (walk .result) =
-    rw (c .before .before .before .before .least-root .ensures) at (walk .ensures) in
-    verdict-tells (a .st) (words (a .pool .now)) (a .used) (c .before .before .before .before .before .before .before .before .before .pre .1 .used) (a .height) (walk .result) (c .before .before .before .before .before .before .before .before .before .pre .1 .height) chk (omega arith)
+    rw (least .least-root .ensures) at (walk .ensures) in
+    verdict-tells (a .st) (words (a .pool .now)) (a .used) (start .pre .1 .used) (a .height) (walk .result) (start .pre .1 .height) chk (omega arith)
     (not-false (walk .result .ok) (c .before .if3 .left))
 
 pub tree-right-spec : {M : Type 1} → statement M
