@@ -51,7 +51,11 @@ module _ (st : Settings) (W : List ℕ) (h s : ℕ) (k : Grown st W h s) where
   pub grown-sorted : R.Sorted st W s
   grown-sorted =
       let at = held-at st W h s (k .pool) (k .tree) in
-      record { held = at .held; slot = at .slot; keys = subst R.Ascending (sym rows-are) (rows-ascend h (treeAt (nodes st W) h s .items) (separator-keys st h (k .whole) (k .sorted))) }
+      record {
+        held = at .held;
+        slot = at .slot;
+        keys = subst R.Ascending (sym rows-are) (rows-ascend h (treeAt (nodes st W) h s .items) (separator-keys st h (k .whole) (k .sorted)));
+      }
 
   pub grown-some : h ≢ 0 → 0 < length (rowsAt st W s)
   grown-some ne = omega (arith, ap length rows-are, length-map (treeAt (nodes st W) h s .items) (rowFor h), k .some ne)
@@ -117,7 +121,8 @@ module _ (k : ℕ) where
   held-child st h z p (one {x = c} w (one {x = d} {xs = cs} v ws)) s =
       by (ltb (greatestKey (suc h) c) k) refl (held-child st h z (omega arith) (one v ws) (ordered-right (entries (suc h) c) (flat (suc h) (d ∷ cs)) s))
     where
-      by : (t : Bool) → ltb (greatestKey (suc h) c) k ≡ t → held k (entries (suc h) (getD (d ∷ cs) (childFor k (map (rowFor (suc h)) (d ∷ cs))) z)) ≡ held k (flat (suc h) (d ∷ cs))
+      by : (t : Bool) → ltb (greatestKey (suc h) c) k ≡ t
+          → held k (entries (suc h) (getD (d ∷ cs) (childFor k (map (rowFor (suc h)) (d ∷ cs))) z)) ≡ held k (flat (suc h) (d ∷ cs))
           → held k (entries (suc h) (getD (c ∷ d ∷ cs) (cond t (suc (childFor k (map (rowFor (suc h)) (d ∷ cs)))) 0) z)) ≡ held k (flat (suc h) (c ∷ d ∷ cs))
       by true e ih =
           ih ∙ sym (held-front (flat (suc h) (d ∷ cs))
@@ -162,14 +167,17 @@ module _ (st : Settings) (W : List ℕ) (key : ℕ) where
 
   -- the same for a height that is not 0
   pub descend : (h s i : ℕ) (row : Row) → 0 < h → Grown st W h s → Chosen key (rowsAt st W s) i → row ≡ getD (rowsAt st W s) i blank
-      → Grown st W (h - 1) (childOf row) × (held key (entries (suc (h - 1)) (treeAt (nodes st W) (h - 1) (childOf row))) ≡ held key (entries (suc h) (treeAt (nodes st W) h s)))
+      → Grown st W (h - 1) (childOf row) ×
+      (held key (entries (suc (h - 1)) (treeAt (nodes st W) (h - 1) (childOf row))) ≡ held key (entries (suc h) (treeAt (nodes st W) h s)))
   descend zero s i row p g c e = absurd (omega arith)
   descend (suc h) s i row p g c e =
       let down : h ≡ suc h - 1 = omega arith in
-      subst (λ (n : ℕ). Grown st W n (childOf row) × (held key (entries (suc n) (treeAt (nodes st W) n (childOf row))) ≡ held key (entries (suc (suc h)) (treeAt (nodes st W) (suc h) s)))) down
+      subst (λ (n : ℕ). Grown st W n (childOf row) ×
+      (held key (entries (suc n) (treeAt (nodes st W) n (childOf row))) ≡ held key (entries (suc (suc h)) (treeAt (nodes st W) (suc h) s)))) down
       (lower h s g i row c e)
 
-  pub arrive : (height h s : ℕ) → h ≤ 0 → Grown st W h s → held key (entries (suc h) (treeAt (nodes st W) h s)) ≡ held key (entries (suc height) (treeAt (nodes st W) height 0)) → Leads st W height key 0 s
+  pub arrive : (height h s : ℕ) → h ≤ 0 → Grown st W h s
+      → held key (entries (suc h) (treeAt (nodes st W) h s)) ≡ held key (entries (suc height) (treeAt (nodes st W) height 0)) → Leads st W height key 0 s
   arrive height zero s p g e = record { grown = g; same = e }
   arrive height (suc h) s p g e = absurd (omega arith)
 
@@ -179,7 +187,8 @@ abbrev listFound : List Row → Found → List Entry
 listFound rs (At i) = entryOf (getD rs i blank) ∷ []
 listFound rs (Before i) = []
 
-entry-is : (k : ℕ) (r : Row) (t : Bool) → eqb (r .key) k ≡ t → present k (cond t (O.some (record { place = r .body; size = r .size })) O.none) ≡ cond t (entryOf r ∷ []) []
+entry-is : (k : ℕ) (r : Row) (t : Bool) → eqb (r .key) k ≡ t
+    → present k (cond t (O.some (record { place = r .body; size = r .size })) O.none) ≡ cond t (entryOf r ∷ []) []
 entry-is k r true e = let same : k ≡ r .key = sym (eqb-true (r .key) k e) in ap (λ (n : ℕ). record { key = n; place = r .body; size = r .size } ∷ []) same
 entry-is k r false e = refl
 
@@ -194,7 +203,8 @@ present-found k rs = ap (λ (es : List Entry). present k (first k es)) (entries-
     hit false e = refl
 
     by : (t : Bool) → ltb (below k rs) (length rs) ≡ t
-        → present k (first k (map entryOf (drop (below k rs) rs))) ≡ listFound rs (pick t (pick (eqb (keyAt rs (below k rs)) k) (At (below k rs)) (Before (below k rs))) (Before (below k rs)))
+        → present k (first k (map entryOf (drop (below k rs) rs)))
+        ≡ listFound rs (pick t (pick (eqb (keyAt rs (below k rs)) k) (At (below k rs)) (Before (below k rs))) (Before (below k rs)))
     by true e =
         ap (λ (l : List Row). present k (first k (map entryOf l))) (drop-cons rs (below k rs) blank (ltb-true (below k rs) (length rs) e))
         ∙ hit (eqb (keyAt rs (below k rs)) k) refl

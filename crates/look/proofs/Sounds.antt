@@ -31,7 +31,6 @@ use Rattle.tree.proofs.Pools.{sound-held, sound-holds-index, sound-index}
 use Rattle.tree.proofs.SoundHolds.{slot-read}
 use Rattle.look_output.specs.declared.Listed.{Listed}
 use Rattle.look_scan.specs.declared.Scanned.{Scanned}
-use Rattle.model.specs.declared.Request.{Request}
 use Rattle.look_output.specs.Output.{roomIn, page, enlistAll, freshPage}
 use Rattle.look_scan.specs.Walk.{Walk, walkAt, visitAll, openingsOf, ToScan}
 use Rattle.look.specs.Lookup.{Grown}
@@ -52,8 +51,15 @@ module _ (q : Request) (h : ℕ) (f : (c : Tree h) → length (openings q h c) �
   up-few (c ∷ cs) =
       let rest : List (Tree h) = cond (ends (q .end) (greatestKey (suc h) c)) (untilEnd q (suc h) cs) [] in
       let left : length (openingsOf q h (cond (ends (q .end) (greatestKey (suc h) c)) (untilEnd q (suc h) cs) [])) ≤ length (slotsIn (suc h) cs) =
-      by-test (λ (ds : List (Tree h)). length (openingsOf q h ds) ≤ length (slotsIn (suc h) cs)) (ends (q .end) (greatestKey (suc h) c)) (λ _. up-few cs) (λ _. omega arith) in
-      omega (arith, ap length (openings-append q h (c ∷ []) rest), length-append (openingsOf q h (c ∷ [])) (openingsOf q h rest), one-few c, length-append (slots (suc h) c) (slotsIn (suc h) cs))
+      by-test (λ (ds : List (Tree h)). length (openingsOf q h ds) ≤ length (slotsIn (suc h) cs)) (ends (q .end) (greatestKey (suc h) c))
+      (λ _. up-few cs) (λ _. omega arith) in
+      omega (
+        arith,
+        ap length (openings-append q h (c ∷ []) rest),
+        length-append (openingsOf q h (c ∷ [])) (openingsOf q h rest),
+        one-few c,
+        length-append (slots (suc h) c) (slotsIn (suc h) cs),
+      )
 
   down-few : (cs : List (Tree h)) → length (openingsOf q h (reverse cs)) ≤ length (slotsIn (suc h) cs)
   down-few [] = omega arith
@@ -103,7 +109,8 @@ module _ (l : List ℕ) (st : Settings) (height : ℕ) (k : InPool l st height) 
       (record {
         held = sound-held l (k .sound);
         slot = omega (arith, k .sound .settings .many);
-        sums = subst (λ (n : S.Node). Sums (indexOf l .height) (n .rows)) (sym root-node) (sums-fit (indexOf l .height) (indexOf l .root) root-few (sound .fit));
+        sums =
+            subst (λ (n : S.Node). Sums (indexOf l .height) (n .rows)) (sym root-node) (sums-fit (indexOf l .height) (indexOf l .root) root-few (sound .fit));
       })
 
   pub pool-totals : sumRows height (rowsAt st (words l) 0) ≡ totalsOf (indexOf l)
@@ -155,9 +162,11 @@ module _ (l : List ℕ) (st : Settings) (height : ℕ) (k : InPool l st height) 
       → Writes (getAll keys (roomIn out) (indexOf l)) out (r .written) (r .more) o
   pool-got keys out o r e =
       let room : ℕ = length out / 24 in
-      let is : page o r ≡ enlistAll room (found keys (entriesOf (indexOf l))) (freshPage out) = e ∙ ap (λ (es : List Entry). enlistAll room (found keys es) (freshPage out)) pool-entries in
+      let is : page o r ≡ enlistAll room (found keys (entriesOf (indexOf l))) (freshPage out) =
+      e ∙ ap (λ (es : List Entry). enlistAll room (found keys es) (freshPage out)) pool-entries in
       shown room out o (found keys (entriesOf (indexOf l))) r
-      (subst (Shows room out (found keys (entriesOf (indexOf l)))) (sym is) (shows-all room out [] (found keys (entriesOf (indexOf l))) (freshPage out) (shows-none room out)))
+      (subst (Shows room out (found keys (entriesOf (indexOf l)))) (sym is)
+      (shows-all room out [] (found keys (entriesOf (indexOf l))) (freshPage out) (shows-none room out)))
 
   module _ (q : Request) (out o : List ℕ) (r : Scanned)
       (e : walkAt o r ≡ visitAll (length out / 24) (openings q height (treeAt (nodes st (words l)) height 0)) (walkAt out start)) where
@@ -167,8 +176,10 @@ module _ (l : List ℕ) (st : Settings) (height : ℕ) (k : InPool l st height) 
     pub pool-scanned : Writes (M.scan q (roomIn out) (indexOf l) .listed) out (r .written) (r .more) o
     pool-scanned =
         let room : ℕ = length out / 24 in
-        let law : concat (openings q (indexOf l .height) (indexOf l .root)) ≡ dueIn q (entriesOf (indexOf l)) = openings-law q (settingsIn l) (indexOf l .height) (indexOf l .root) (sound .whole) (sound .sorted) in
-        let all : Shows room out (concat (openings q (indexOf l .height) (indexOf l .root))) (visitAll room (openings q (indexOf l .height) (indexOf l .root)) (walkAt out start) .page) =
+        let law : concat (openings q (indexOf l .height) (indexOf l .root)) ≡ dueIn q (entriesOf (indexOf l)) =
+        openings-law q (settingsIn l) (indexOf l .height) (indexOf l .root) (sound .whole) (sound .sorted) in
+        let all : Shows room out (concat (openings q (indexOf l .height) (indexOf l .root)))
+        (visitAll room (openings q (indexOf l .height) (indexOf l .root)) (walkAt out start) .page) =
         visits-show room out [] (openings q (indexOf l .height) (indexOf l .root)) (walkAt out start) (shows-none room out) in
         shown room out o (dueIn q (entriesOf (indexOf l))) (record { written = r .written; more = r .more })
         (subst (λ (es : List Entry). Shows room out es (walkAt o r .page)) law
@@ -177,4 +188,5 @@ module _ (l : List ℕ) (st : Settings) (height : ℕ) (k : InPool l st height) 
     pub pool-opened : r .opened ≡ M.scan q (roomIn out) (indexOf l) .opened
     pool-opened =
         let room : ℕ = length out / 24 in
-        ap (λ (w : Walk). w .opened) walked ∙ visits-count room out (openings q (indexOf l .height) (indexOf l .root)) (walkAt out start) (shows-none room out) refl
+        ap (λ (w : Walk). w .opened) walked
+        ∙ visits-count room out (openings q (indexOf l .height) (indexOf l .root)) (walkAt out start) (shows-none room out) refl

@@ -26,7 +26,8 @@ three (x ∷ y ∷ z ∷ []) a b c e = refl
 three (x ∷ y ∷ z ∷ w ∷ W) a b c e = absurd (omega arith)
 
 -- 24 bytes whose words were set are the bytes of those words
-pub spelled : (W : List ℕ) (l : List ℕ) (a b c : ℕ) → length W ≡ 3 → length l ≡ 24 → Bytes l → words l ≡ set (set (set W 0 a) 1 b) 2 c → l ≡ bytesOf (a ∷ b ∷ c ∷ [])
+pub spelled : (W : List ℕ) (l : List ℕ) (a b c : ℕ) → length W ≡ 3 → length l ≡ 24 → Bytes l → words l ≡ set (set (set W 0 a) 1 b) 2 c
+    → l ≡ bytesOf (a ∷ b ∷ c ∷ [])
 spelled W l a b c n m h e = sym (bytesOf-words 3 l m h) ∙ ap bytesOf (e ∙ three W a b c n)
 
 bytes-append : (v w : List ℕ) → bytesOf (v ++ w) ≡ bytesOf v ++ bytesOf w
@@ -50,12 +51,15 @@ put-next : (es : List Entry) (e : Entry) (out : List ℕ) → putEntry (length e
 put-next es e out =
     let old : List ℕ = bytesOf (entryWords es) in
     let new : List ℕ = bytesOf (entryWords (e ∷ [])) in
-    let front : take (24 * length es) (outputOf es out) ≡ bytesOf (entryWords es) = take-at (bytesOf (entryWords es)) (drop (24 * length es) out) (24 * length es) (bytes-long es) in
+    let front : take (24 * length es) (outputOf es out) ≡ bytesOf (entryWords es) =
+    take-at (bytesOf (entryWords es)) (drop (24 * length es) out) (24 * length es) (bytes-long es) in
     let long : 24 * length es + 24 ≡ length (bytesOf (entryWords es)) + 24 = omega (arith, bytes-long es) in
     let back : drop (24 * length es + 24) (outputOf es out) ≡ drop (24 * length es + 24) out =
-    ap (λ (n : ℕ). drop n (outputOf es out)) long ∙ drop-append-add (bytesOf (entryWords es)) (drop (24 * length es) out) 24 ∙ drop-drop 24 (24 * length es) out in
+    ap (λ (n : ℕ). drop n (outputOf es out)) long ∙ drop-append-add (bytesOf (entryWords es)) (drop (24 * length es) out) 24
+    ∙ drop-drop 24 (24 * length es) out in
     let all : 24 * length es + 24 ≡ 24 * length (es ++ (e ∷ [])) = omega (arith, length-append es (e ∷ [])) in
-    let joined : old ++ new ≡ bytesOf (entryWords (es ++ (e ∷ []))) = sym (bytes-append (entryWords es) (entryWords (e ∷ []))) ∙ ap bytesOf (sym (words-of es (e ∷ []))) in
+    let joined : old ++ new ≡ bytesOf (entryWords (es ++ (e ∷ []))) =
+    sym (bytes-append (entryWords es) (entryWords (e ∷ []))) ∙ ap bytesOf (sym (words-of es (e ∷ []))) in
     ap (λ (l : List ℕ). l ++ (new ++ drop (24 * length es + 24) (outputOf es out))) front
     ∙ ap (λ (l : List ℕ). old ++ (new ++ l)) (back ∙ ap (λ (n : ℕ). drop n out) all)
     ∙ sym (append-assoc old new (drop (24 * length (es ++ (e ∷ []))) out))
@@ -92,7 +96,8 @@ pub record Shows (room : ℕ) (out : List ℕ) (es : List Entry) (p : Page) : Ty
 
 pub shows-none : (room : ℕ) (out : List ℕ) → Shows room out [] (page out (record { written = 0; more = false }))
 unfolding bytesOf
-shows-none room out = record { bytes = rw (take-nil {A = Entry} room) refl; written = rw (take-nil {A = Entry} room) refl; more = sym (le-ltb room 0 (omega arith)) }
+shows-none room out =
+    record { bytes = rw (take-nil {A = Entry} room) refl; written = rw (take-nil {A = Entry} room) refl; more = sym (le-ltb room 0 (omega arith)) }
 
 module _ (room : ℕ) (out : List ℕ) where
   -- one that is full shows no more
@@ -121,7 +126,9 @@ module _ (room : ℕ) (out : List ℕ) where
           let was : p .bytes ≡ outputOf es out = s .bytes ∙ ap (λ (l : List Entry). outputOf l out) all in
           subst (Shows room out (es ++ (e ∷ []))) (enlist-put room e (p .bytes) (p .listed) f (omega arith))
           (record {
-            bytes = ap (λ (k : ℕ). putEntry k e (p .bytes)) n ∙ ap (putEntry (length es) e) was ∙ put-next es e out ∙ ap (λ (l : List Entry). outputOf l out) (sym more);
+            bytes =
+                ap (λ (k : ℕ). putEntry k e (p .bytes)) n ∙ ap (putEntry (length es) e) was ∙ put-next es e out
+                ∙ ap (λ (l : List Entry). outputOf l out) (sym more);
             written = omega (arith, length-append es (e ∷ []), ap length more);
             more = sym (le-ltb room (length (es ++ (e ∷ []))) (omega (arith, length-append es (e ∷ []))));
           })

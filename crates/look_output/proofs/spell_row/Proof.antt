@@ -18,19 +18,23 @@ put-requires-2 : tie.Need-put-requires-2
 put-requires-2 c κs = omega (arith, length-words (c .before .before .before .before .before .before .args .part .now))
 
 put-requires-3 : tie.Need-put-requires-3
-put-requires-3 c κs = omega (arith, length-words (c .before .before .before .before .before .before .before .before .before .before .args .part .now))
+put-requires-3 c κs =
+    let second = c .before .before .before in
+    let start = second .before .before .before .before .before .before .before in
+    omega (arith, length-words (start .args .part .now))
 
 returns : tie.Need-returns
 returns c =
-    let start = c .before .before .before .before .before .before .before .before .before .before .before .before .before in
+    let third = c .before .before in
+    let second = third .before .before .before .before in
+    let first = second .before .before .before .before in
+    let start = first .before .before .before in
     let p = start .args .part .now in
     let row = start .args .row in
-    let first = c .before .before .before .before .before .before .before .before .before .before .put in
-    let second = c .before .before .before .before .before .before .put2 in
-    let third = c .before .before .put3 in
-    spelled (words p) (third .last .0) (row .key) (row .body) (row .size) (omega (arith, length-words p)) (omega arith)
+    spelled (words p) (third .put3 .last .0) (row .key) (row .body) (row .size) (omega (arith, length-words p)) (omega arith)
     (λ i. c .slice-known4 .given i .fits)
-    (third .ensures .0 ∙ ap (λ (l : List ℕ). set l 2 (row .size)) (second .ensures .0 ∙ ap (λ (l : List ℕ). set l 1 (row .body)) (first .ensures .0)))
+    (third .put3 .ensures .0 ∙ ap (λ (l : List ℕ). set l 2 (row .size))
+    (second .put2 .ensures .0 ∙ ap (λ (l : List ℕ). set l 1 (row .body)) (first .put .ensures .0)))
 
 pub spell-row-spec : {M : Type 1} → statement M
 spell-row-spec = tie.close (tie.spec put-requires put-requires-2 put-requires-3 (λ c. search needs) returns)

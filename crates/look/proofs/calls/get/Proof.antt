@@ -6,7 +6,8 @@ use Rattle.look.proofs.calls.get.Statement.{statement}
 use Rattle.look.proofs.calls.get.Tie as tie
 
 get-keys-requires : tie.Need-get-keys-requires
-get-keys-requires c κs = let start = c .before .before .before .before in let a = start .args in (pool-grown (a .pool .now) (a .st) (a .height) (start .pre), omega arith)
+get-keys-requires c κs =
+    let start = c .before .before .before .before in let a = start .args in (pool-grown (a .pool .now) (a .st) (a .height) (start .pre), omega arith)
 
 returns : tie.Need-returns
 returns c =

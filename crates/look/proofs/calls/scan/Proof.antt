@@ -9,7 +9,8 @@ scan-node-requires : tie.Need-scan-node-requires
 scan-node-requires c κs =
     let start = c .before .before .before in
     let a = start .args in
-    pool-scan (a .pool .now) (a .st) (a .height) (start .pre) (record { start = a .start; end = a .end; direction = a .direction; sift = a .sift }) (a .out .now)
+    pool-scan (a .pool .now) (a .st) (a .height) (start .pre) (record { start = a .start; end = a .end; direction = a .direction; sift = a .sift })
+    (a .out .now)
 
 returns : tie.Need-returns
 returns c =

@@ -33,14 +33,15 @@ returns-2 c =
 
 returns-3 : tie.Need-returns-3
 returns-3 c =
-    let start = c .before .before .before .before .before .before .before in
+    let counted = c .before .before .before .before .before in
+    let start = counted .before .before in
     let a = start .args in
     let rs = rowsAt (a .st) (words (a .pool .now)) (a .s) in
     let q = c .before .before .before .before .search in
     let f = c .before .before .sought2 .given in
-    let count = c .before .before .before .before .before .count in
+    let count = counted .count in
     let place = found-place (a .key) rs (q .result) (Before (f .0 .0)) (q .ensures) (f .1) in
-    let last : c .before .before .before .before .before .count .result - 1 ≡ length (rowsAt (c .before .before .before .before .before .before .before .args .st) (words (c .before .before .before .before .before .before .before .args .pool .now)) (c .before .before .before .before .before .before .before .args .s)) - 1 = omega (arith, count .ensures .is) in
+    let last : count .result - 1 ≡ length rs - 1 = omega (arith, count .ensures .is) in
     record {
       is = last ∙ child-out (a .key) rs (start .pre .1) (omega (arith, place, count .ensures .is, c .if1 .left));
       inside = omega (arith, start .pre .1, count .ensures .is);

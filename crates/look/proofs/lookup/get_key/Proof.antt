@@ -26,15 +26,23 @@ row-at-requires c κs =
     let q = c .before .before .before .search in
     let f = c .before .sought .given in
     let s = grown-sorted (a .st) (words (a .pool .now)) 0 (leaf .result) (leaf .ensures .grown) in
-    record { held = s .held; slot = s .slot; within = omega (arith, found-inside (a .key) (rowsAt (a .st) (words (a .pool .now)) (leaf .result)) (q .result) (f .0 .0) (q .ensures) (f .1)) }
+    record {
+      held = s .held;
+      slot = s .slot;
+      within = omega (arith, found-inside (a .key) (rowsAt (a .st) (words (a .pool .now)) (leaf .result)) (q .result) (f .0 .0) (q .ensures) (f .1));
+    }
 
 returns : tie.Need-returns
 returns c =
-    let a = c .before .before .before .before .before .before .before .before .before .before .before .before .args in
-    let leaf = c .before .before .before .before .before .before .before .before .before .leaf-for in
-    let q = c .before .before .before .before .before .before .before .before .search in
-    let f = c .before .before .before .before .before .before .sought .given in
-    c .before .before .list-row .ensures ∙ ap (λ (r : Row). enlistAll (a .room) (entryOf r ∷ []) (page (a .out .now) (a .l))) (c .before .before .before .before .row-at .ensures)
+    let listed = c .before .before in
+    let row = listed .before .before in
+    let led = row .before .before .before .before .before in
+    let start = led .before .before .before in
+    let a = start .args in
+    let leaf = led .leaf-for in
+    let q = row .before .before .before .before .search in
+    let f = row .before .before .sought .given in
+    listed .list-row .ensures ∙ ap (λ (r : Row). enlistAll (a .room) (entryOf r ∷ []) (page (a .out .now) (a .l))) (row .row-at .ensures)
     ∙ ap (λ (es : List Entry). enlistAll (a .room) es (page (a .out .now) (a .l)))
     (found-listed (a .st) (words (a .pool .now)) (a .height) (a .key) (leaf .result) (leaf .ensures) (q .result) (At (f .0 .0)) (q .ensures) (f .1))
 

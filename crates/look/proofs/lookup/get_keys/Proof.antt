@@ -35,15 +35,19 @@ get-key-requires c κs =
 
 loop-again : tie.Need-loop-again Inv-loop μ-loop
 loop-again c =
-    let a = c .before .before .before .before .before .before .before .before .before .before .before .before .args in
-    let at = c .before .before .before .before .before .before .before .before .loop in
+    let listed = c .before .before in
+    let loop = listed .before .before .before .before .before .before in
+    let start = loop .before .before .before .before in
+    let a = start .args in
+    let at = loop .loop in
     let es = entries (suc (a .height)) (treeAt (nodes (a .st) (words (a .pool .now))) (a .height) 0) in
-    let got = c .before .before .get-key in (
-      omega (arith, c .before .before .before .before .before .before .before .loop-test .taken),
+    let got = listed .get-key in (
+      omega (arith, listed .before .before .before .before .before .loop-test .taken),
       (
         got .kept .1 .1 .1 .1 .0 ∙ at .inv .1 .0,
         ap (enlistAll (a .room) (found (drop (at .k + 1) (a .keys .now)) es)) (got .ensures)
-            ∙ keys-next (a .room) (a .keys .now) es (page (at .out) (at .l)) (at .k) (c .before .before .before .before .before .before .before .loop-test .taken) ∙ at .inv .1 .1,
+            ∙ keys-next (a .room) (a .keys .now) es (page (at .out) (at .l)) (at .k)
+            (listed .before .before .before .before .before .loop-test .taken) ∙ at .inv .1 .1,
       ),
     )
 

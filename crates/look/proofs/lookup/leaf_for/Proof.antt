@@ -26,8 +26,10 @@ loop-holds c = (c .before .pre, refl)
 child-for-requires : tie.Need-child-for-requires Inv-loop μ-loop
 child-for-requires c κs =
     let a = c .before .before .before .args in
-    let at = c .before .loop in
-    (grown-sorted (a .st) (words (a .pool .now)) (at .h) (at .s) (at .inv .0), grown-some (a .st) (words (a .pool .now)) (at .h) (at .s) (at .inv .0) (λ e. omega (arith, c .loop-test .taken)))
+    let at = c .before .loop in (
+      grown-sorted (a .st) (words (a .pool .now)) (at .h) (at .s) (at .inv .0),
+      grown-some (a .st) (words (a .pool .now)) (at .h) (at .s) (at .inv .0) (λ e. omega (arith, c .loop-test .taken)),
+    )
 
 row-at-requires : tie.Need-row-at-requires Inv-loop μ-loop
 row-at-requires c κs =
@@ -41,8 +43,11 @@ loop-again c =
     let a = c .before .before .before .before .before .before .args in
     let at = c .before .before .before .before .loop in
     let ns = nodes (a .st) (words (a .pool .now)) in
-    let down = descend (a .st) (words (a .pool .now)) (a .key) (at .h) (at .s) (c .before .before .child-for .result) (c .before .row-at .result) (c .before .before .before .loop-test .taken) (at .inv .0) (c .before .before .child-for .ensures) (c .before .row-at .ensures) in
-    subst (λ (t : ℕ). Grown (a .st) (words (a .pool .now)) (at .h - 1) t × (held (a .key) (entries (suc (at .h - 1)) (treeAt ns (at .h - 1) t)) ≡ held (a .key) (entries (suc (a .height)) (treeAt ns (a .height) 0))))
+    let down =
+    descend (a .st) (words (a .pool .now)) (a .key) (at .h) (at .s) (c .before .before .child-for .result) (c .before .row-at .result)
+    (c .before .before .before .loop-test .taken) (at .inv .0) (c .before .before .child-for .ensures) (c .before .row-at .ensures) in
+    subst (λ (t : ℕ). Grown (a .st) (words (a .pool .now)) (at .h - 1) t ×
+    (held (a .key) (entries (suc (at .h - 1)) (treeAt ns (at .h - 1) t)) ≡ held (a .key) (entries (suc (a .height)) (treeAt ns (a .height) 0))))
     (sym (c .child-of .ensures)) (down .0, down .1 ∙ at .inv .1)
 
 returns : tie.Need-returns Inv-loop μ-loop
