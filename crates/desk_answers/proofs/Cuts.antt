@@ -1,5 +1,5 @@
 -- A text is served part by part: the lines that are kept are its lines, however it is cut. Assumes nothing.
-use Prim.Native.Nat.{ℕ, zero, suc, _+_, _≤_, _<_}
+use Prim.Native.Nat.{ℕ, suc, _+_, _≤_, _<_}
 use native.Mathlib.Omega.{arith}
 use mathlib.Core.Path.{_≡_, refl, sym, ap, _∙_, subst}
 use mathlib.Core.Bool.{Bool, true, false, cond}
@@ -7,9 +7,9 @@ use mathlib.Core.List.{List, [], _∷_, _++_, append-assoc, append-nil, map}
 use lib.Dec.{eqb, leb}
 use lib.ListN.{length, take, drop, length-append}
 use lib.Seq.{take-length, drop-length, length-take-le}
-use borrow.Author.Tests.{leb-true, leb-false, lt-leb, le-leb}
+use borrow.Author.Tests.{leb-true}
 use Rattle.model.specs.Lists.{concat}
-use Rattle.model.proofs.Lists.{by-test, cons-nil}
+use Rattle.model.proofs.Lists.{cons-nil}
 use Rattle.desk_text.specs.Texts.{over as put}
 use Rattle.desk_text.proofs.Overs.{length-over}
 use Rattle.desk_lines.specs.Lines.{onto, linesOf, upTo, firstLine}
@@ -18,9 +18,8 @@ use Rattle.desk_orders.specs.Orders.{Wanted, set, drops, dump, malformed, order
 use Rattle.desk_lines.proofs.Finds.{up-to-take, up-to-length}
 use Rattle.desk_lines.proofs.Keeps.{keeps-the-parts, cut-anyhow}
 use Rattle.tree.specs.Pool.{settingsIn, indexOf, imageOf}
-use Rattle.index.specs.Promise.{Where, holds, fails}
+use Rattle.index.specs.Promise.{holds, fails}
 use Rattle.desk_answers.specs.Replies.{Reply, refusing, reply}
-use Rattle.desk_answers.specs.Program.{program}
 use Rattle.desk_answers.specs.Promise.{opened, Outcome, outcome, Replies, Answers, Session, rest, next}
 use Rattle.desk_answers.specs.Turns.{Turned, Turns, goes-on, ends, Serves, over, last, read, turn, ServesAnyText, OneTurn}
 use Rattle.desk_answers.proofs.Sessions.{one-answer, writes-the-program}
@@ -44,7 +43,8 @@ module _ (p : Place) (l t rest : List ℕ) where
       let is : q ≡ keeping p (firstLine rest) = kept ∙ ap (keeping p) e in
       let less : length (firstLine rest) ≤ length rest = up-to-length 10 rest in
       let short : length (firstLine rest) < length rest = lt-of (λ z. more (ap length e ∙ z)) less in
-      ends short (ap (λ x. length x + 1) e) (ap (λ (x : Place). record { count = 0; bytes = x .bytes }) is) (subst (λ x. Answers (ordered (held x)) l t a) is ans)
+      ends short (ap (λ x. length x + 1) e) (ap (λ (x : Place). record { count = 0; bytes = x .bytes }) is)
+      (subst (λ x. Answers (ordered (held x)) l t a) is ans)
     where
       lt-of : {m n : ℕ} → (m ≡ n → ⊥) → m ≤ n → m < n
       lt-of {m} {n} f h = omega (arith, f)
@@ -62,7 +62,8 @@ one-turn p l t more u v (ends a b c d) (ends e f g h) =
   where
     both : u .taken ≡ v .taken → u .place ≡ v .place → u .left ≡ v .left → u ≡ v
     both x y z =
-        ap (λ (n : ℕ). turned n (u .place) (u .left)) x ∙ ap (λ (q : Place). turned (v .taken) q (u .left)) y ∙ ap (λ (o : Outcome). turned (v .taken) (v .place) o) z
+        ap (λ (n : ℕ). turned n (u .place) (u .left)) x ∙ ap (λ (q : Place). turned (v .taken) q (u .left)) y
+        ∙ ap (λ (o : Outcome). turned (v .taken) (v .place) o) z
 
 -- THE LINES OF A TEXT that is cut
 
@@ -158,7 +159,8 @@ something-held p full h = by (leb (p .count) longest) refl
     some-bytes [] g = absurd (omega arith)
     some-bytes (d ∷ c) g = refl
 
-    by : (t : Bool) → leb (p .count) longest ≡ t → pending (cond t (whole (take (p .count) (p .bytes))) tooLong) ≡ cond t (whole (take (p .count) (p .bytes))) tooLong ∷ []
+    by : (t : Bool) → leb (p .count) longest ≡ t
+        → pending (cond t (whole (take (p .count) (p .bytes))) tooLong) ≡ cond t (whole (take (p .count) (p .bytes))) tooLong ∷ []
     by true e = some-bytes (take (p .count) (p .bytes)) (omega (arith, h, length-take-le (p .count) (p .bytes) (omega (arith, leb-true (p .count) longest e))))
     by false e = refl
 
@@ -166,7 +168,8 @@ keep-full : (p : Place) (part : List ℕ) → length (p .bytes) ≡ longest → 
 keep-full p part full = by (leb (p .count + length part) longest) refl
   where
     by : (t : Bool) → leb (p .count + length part) longest ≡ t
-        → length ((cond {A = Place} t (record { count = p .count + length part; bytes = put (p .count) part (p .bytes) }) (record { count = 256; bytes = p .bytes })) .bytes) ≡ longest
+        → length ((cond {A = Place} t (record { count = p .count + length part; bytes = put (p .count) part (p .bytes) })
+        (record { count = 256; bytes = p .bytes })) .bytes) ≡ longest
     by true e = length-over (p .count) part (p .bytes) (omega (arith, leb-true (p .count + length part) longest e)) ∙ full
     by false e = full
 

@@ -1,13 +1,13 @@
 -- The frames of the desk's pool have room in its text: at most 16 nodes, and an entry of order more makes fewer of them. Assumes nothing.
-use Prim.Native.Nat.{ℕ, zero, suc, _+_, _-_, _*_, _≤_, _<_}
+use Prim.Native.Nat.{ℕ, zero, suc, _+_, _*_, _≤_}
 use native.Mathlib.Omega.{arith}
 use native.Mathlib.Nat.{suc-mul, mul-le-mul-right, mul-le-mul-left, mul-add, mul-left-comm}
 use mathlib.Core.Path.{_≡_, refl, sym, ap, _∙_}
-use mathlib.Core.List.{List, [], _∷_, _++_, map}
+use mathlib.Core.List.{List, [], _∷_}
 use lib.ListN.{length, length-append, length-map}
 use Rattle.model.specs.declared.Settings.{Settings}
-use Rattle.model.specs.Lists.{All, none, one, concat}
-use Rattle.model.specs.Tree.{Item, Tree, Index, len, slotsOf}
+use Rattle.model.specs.Lists.{All, none, one}
+use Rattle.model.specs.Tree.{Item, Tree, len, slotsOf}
 use Rattle.model.specs.Frame.{Frame, leaf, interior, nodesIn, branches, inTurn, framesFrom, framesOf, lineOf}
 use Rattle.model.specs.Sound.{Whole, Sound}
 use Rattle.model.proofs.Lists.{all-append, all-head, all-tail, all-map}
@@ -93,5 +93,6 @@ module _ (l : List ℕ) (s : SoundPool l) (long : length l ≡ 3360) where
   frames-fit =
       let w = 3 + 56 * st .order in
       let short : All (λ f. length (frameText f) ≤ w) fs =
-      all-map (line-short (st .order)) (frames-few st (indexOf l .height) 0 (indexOf l .root) (root-few st (indexOf l .height) (indexOf l .root) (index .rooted)) (index .whole)) in
+      all-map (line-short (st .order))
+      (frames-few st (indexOf l .height) 0 (indexOf l .root) (root-few st (indexOf l .height) (indexOf l .root) (index .rooted)) (index .whole)) in
       omega (arith, text-short w fs short, mul-le-mul-right w many, times 3 56, sized)

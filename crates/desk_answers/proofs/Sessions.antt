@@ -1,13 +1,13 @@
 -- Whatever keeps the promise is one answer, and lines that are answered one after the other write what the program is to write. Assumes nothing.
-use Prim.Native.Nat.{ℕ, zero, suc, _+_, _*_, _^_, _<_}
+use Prim.Native.Nat.{ℕ, zero, suc, _^_, _<_}
 use native.Mathlib.Omega.{arith}
 use mathlib.Core.Path.{_≡_, refl, sym, ap, _∙_, subst}
 use mathlib.Core.List.{List, [], _∷_, _++_, map}
-use lib.ListN.{length, take}
+use lib.ListN.{take}
 use lib.Seq.{take-append-seam}
 use Rattle.model.specs.declared.Settings.{Settings}
 use Rattle.model.specs.declared.Entry.{Entry}
-use Rattle.model.specs.Lists.{All, none, one}
+use Rattle.model.specs.Lists.{All, none}
 use Rattle.model.specs.Tree.{Index, newIndex}
 use Rattle.model.specs.Change.{Batched, batch}
 use Rattle.model.specs.Answer.{Answer, refused, done, unless}
@@ -19,15 +19,15 @@ use Rattle.model.proofs.Calls.{new-sound}
 use Rattle.model.proofs.Lists.{all-of, all-map}
 use Rattle.tree.specs.Pool.{SoundPool, settingsIn, indexOf, imageOf}
 use Rattle.tree.proofs.Pools.{image-sound, image-index, image-settings}
-use Rattle.index.specs.Promise.{Where, holds, fails}
+use Rattle.index.specs.Promise.{Where}
 use Rattle.index.proofs.Unique.{where-unique}
 use Rattle.index.proofs.Register.{by-sound}
 use Rattle.desk_lines.specs.Lines.{linesOf}
-use Rattle.desk_lines.specs.Parts.{Kept, kept}
-use Rattle.desk_orders.specs.Orders.{Wanted, set, drops, dump, malformed, ordered, wanted}
+use Rattle.desk_lines.specs.Parts.{kept}
+use Rattle.desk_orders.specs.Orders.{Wanted, set, drops, dump, malformed, wanted}
 use Rattle.desk_orders.proofs.Bounds.{WantedFits, wanted-fits}
 use Rattle.desk_answers.specs.Replies.{Reply, refusing, batchReply, reply, setCall, dropCall}
-use Rattle.desk_answers.specs.Program.{desk, answered, answers, program}
+use Rattle.desk_answers.specs.Program.{desk, answered, answers}
 use Rattle.desk_answers.specs.Promise.{Outcome, outcome, Answers, Session, rest, next, WritesTheProgram, OneAnswer}
 
 -- ONE ANSWER

@@ -19,12 +19,12 @@ use Rattle.model.proofs.Lists.{parts-append}
 use Rattle.tree.specs.Pool.{SoundPool, indexOf}
 use Rattle.frame_text.specs.declared.WriteAnswer.{WriteAnswer}
 use Rattle.frame_text.specs.declared.WriteAnswer.the-variants as Write
-use Rattle.index.specs.Promise.{Where, holds, fails, Left, _leaving_, leaves, Frames}
+use Rattle.index.specs.Promise.{holds, fails, Left, _leaving_, leaves, Frames}
 use Rattle.desk_text.specs.Texts.{over, refusedText}
 use Rattle.desk_text.proofs.Overs.{Put, behind, put-length, over-first}
 use Rattle.desk_orders.specs.Orders.{dump}
-use Rattle.desk_answers.specs.Replies.{frameText, dumpText, refusing}
-use Rattle.desk_answers.specs.Promise.{Outcome, outcome, Replies}
+use Rattle.desk_answers.specs.Replies.{frameText, dumpText}
+use Rattle.desk_answers.specs.Promise.{Replies}
 use Rattle.desk_answers.proofs.Rooms.{frames-16, frames-fit}
 
 -- THE I-TH FRAME is drawn ..
@@ -57,7 +57,14 @@ module _ (l : List ℕ) (i : ℕ) (line line′ : List ℕ) where
           → (done n leaving line′) ≡ left (unless (cond t 16 0) (lineOf f)) → Drawn l i n line line′
       fit f true q g e = absurd (refused-done 16 n (sym (ap (λ (w : Left ℕ). w .answer) e)))
       fit f false q g e =
-          record { frame = f; sound = s; found = q; count = told (ap (λ (w : Left ℕ). w .answer) e); room = ltb-false _ _ g; bytes = ap (λ (w : Left ℕ). w .bytes) e }
+          record {
+            frame = f;
+            sound = s;
+            found = q;
+            count = told (ap (λ (w : Left ℕ). w .answer) e);
+            room = ltb-false _ _ g;
+            bytes = ap (λ (w : Left ℕ). w .bytes) e;
+          }
         where
           told : done n ≡ done (length (lineOf f)) → n ≡ length (lineOf f)
           told h = cc
@@ -94,7 +101,8 @@ rest-put t at line =
     let over : drop (length t - at) (drop at t) ≡ [] = drop-of-length-le (drop at t) {i = length t - at} (omega (arith, length-drop at t)) in
     ap (λ x. take at t ++ (line ++ x)) over ∙ ap (take at t ++_) (append-nil line)
 
-pub of-the-rest : (l : List ℕ) (i : ℕ) {r q : WriteAnswer} (t : List ℕ) (at : ℕ) {line′ : List ℕ} → r ≡ q → Frames l i (take (length t - at) (drop at t)) r line′
+pub of-the-rest : (l : List ℕ) (i : ℕ) {r q : WriteAnswer} (t : List ℕ) (at : ℕ) {line′ : List ℕ} → r ≡ q
+    → Frames l i (take (length t - at) (drop at t)) r line′
     → Frames l i (drop at t) q line′
 of-the-rest l i {r} t at {line′} e f = subst (λ q. Frames l i (drop at t) q line′) e (subst (λ line. Frames l i line r line′) (rest t at) f)
 
@@ -125,7 +133,8 @@ module _ {A : Type 0} where
 
 part-fits : (fs : List Frame) (i : ℕ) → length (dumpText (take i fs)) ≤ length (dumpText fs)
 part-fits fs i =
-    let e : dumpText fs ≡ dumpText (take i fs) ++ dumpText (drop i fs) = ap dumpText (sym (take-append-drop i fs)) ∙ parts-append frameText (take i fs) (drop i fs) in
+    let e : dumpText fs ≡ dumpText (take i fs) ++ dumpText (drop i fs) =
+    ap dumpText (sym (take-append-drop i fs)) ∙ parts-append frameText (take i fs) (drop i fs) in
     omega (arith, ap length e, length-append (dumpText (take i fs)) (dumpText (drop i fs)))
 
 module _ (l t₀ : List ℕ) where
@@ -142,7 +151,8 @@ module _ (l t₀ : List ℕ) where
     pub same : length t ≡ length t₀
 
   pub none-shown : length l ≡ 3360 → length t₀ ≡ 4096 → Shown t₀ 0 0
-  none-shown a b = record { long = a; room = b; sound = inl refl; put = record { room = omega arith; ends = refl; bytes = refl }; inside = omega arith; same = refl }
+  none-shown a b =
+      record { long = a; room = b; sound = inl refl; put = record { room = omega arith; ends = refl; bytes = refl }; inside = omega arith; same = refl }
 
   module _ {t : List ℕ} {at i : ℕ} (h : Shown t at i) where
     -- one more
@@ -158,7 +168,15 @@ module _ (l t₀ : List ℕ) where
       pub fits : at + n + 1 ≤ 4096
       fits =
           let a : length (dumpText (take (i + 1) all)) ≤ 4096 = omega (arith, part-fits all (i + 1), frames-fit l (d .sound) (h .long)) in
-          omega (arith, a, ap length text, length-append (dumpText (take i all) ++ lineOf (d .frame)) (10 ∷ []), length-append (dumpText (take i all)) (lineOf (d .frame)), h .put .ends, d .count)
+          omega (
+            arith,
+            a,
+            ap length text,
+            length-append (dumpText (take i all) ++ lineOf (d .frame)) (10 ∷ []),
+            length-append (dumpText (take i all)) (lineOf (d .frame)),
+            h .put .ends,
+            d .count,
+          )
 
       -- its line stands in the text ..
       line-put : (t₁ : List ℕ) → t₁ ≡ take at t ++ line′ → Put at (lineOf (d .frame)) t (at + n) t₁
@@ -202,7 +220,8 @@ module _ (l t₀ : List ℕ) where
       all-shown =
           let whole : take i all ≡ all = take-all i all last in
           let count : at ≡ length (dumpText all) = omega (arith, h .put .ends, ap (λ x. length (dumpText x)) whole) in
-          let bytes : t ≡ dumpText all ++ drop (length (dumpText all)) t₀ = h .put .bytes ∙ ap (λ x. over 0 (dumpText x) t₀) whole ∙ over-first (dumpText all) t₀ in
+          let bytes : t ≡ dumpText all ++ drop (length (dumpText all)) t₀ =
+          h .put .bytes ∙ ap (λ x. over 0 (dumpText x) t₀) whole ∙ over-first (dumpText all) t₀ in
           holds s (rw (count, bytes) refl)
 
     -- after 16 turns

@@ -2,7 +2,7 @@
 use Prim.Native.Nat.{ℕ, _-_, _≤_, _<_}
 use native.Mathlib.Omega.{arith}
 use mathlib.Core.Path.{_≡_, refl, sym, ap, _∙_, subst}
-use mathlib.Core.List.{List, [], _++_, map}
+use mathlib.Core.List.{List, [], map}
 use lib.ListN.{length, take, replicate, length-append, length-take, length-map}
 use lib.Seq.{take-at}
 use borrow.Author.Tests.{lt-leb, le-leb}
@@ -16,20 +16,21 @@ use Rattle.model.proofs.Answers.{refused-done}
 use Rattle.tree.specs.Pool.{settingsIn, indexOf, imageOf}
 use Rattle.index.specs.declared.BatchAnswer.{BatchAnswer}
 use Rattle.index.specs.declared.BatchAnswer.the-variants as Batch
-use Rattle.index.specs.Promise.{Where, holds, fails, Left, _leaving_, leaves, Batches}
+use Rattle.index.specs.Promise.{holds, fails, Left, _leaving_, leaves, Batches}
 use Rattle.desk_text.specs.Texts.{over, doneText, refusedText}
 use Rattle.desk_text.proofs.Overs.{over-first}
 use Rattle.desk_orders.specs.declared.Reading.{Reading}
 use Rattle.desk_orders.specs.declared.Order.{Order}
 use Rattle.desk_orders.specs.declared.Order.the-variants as Read
-use Rattle.desk_lines.specs.Parts.{longest, Place, held}
-use Rattle.desk_orders.specs.Orders.{Wanted, set, drops, dump, malformed, ordered, wanted, asked, placed, readingOf}
+use Rattle.desk_lines.specs.Parts.{longest, held}
+use Rattle.desk_orders.specs.Orders.{Wanted, set, drops, dump, malformed, ordered, wanted, placed, readingOf}
 use Rattle.desk_orders.proofs.Asks.{short}
-use Rattle.desk_answers.specs.Replies.{Reply, refusing, batchReply, reply, malformed-line, setCall, dropCall}
+use Rattle.desk_answers.specs.Replies.{Reply, refusing, batchReply, malformed-line}
 use Rattle.desk_answers.specs.Promise.{Outcome, outcome, Changes, Replies, Answers}
 
 -- a text that was put into the first bytes
-pub told : (y : Reply (List ℕ)) (k : ℕ) (l t t′ : List ℕ) → k ≡ length (y .text) → l ≡ y .after → t′ ≡ over 0 (y .text) t → record { count = k; pool = l; text = t′ } ≡ outcome t y
+pub told : (y : Reply (List ℕ)) (k : ℕ) (l t t′ : List ℕ) → k ≡ length (y .text) → l ≡ y .after → t′ ≡ over 0 (y .text) t
+    → record { count = k; pool = l; text = t′ } ≡ outcome t y
 told y k l t t′ a b c = rw (a, b, c ∙ over-first (y .text) t) refl
 
 -- A BATCH
@@ -46,7 +47,8 @@ module _ (c : Call) (l m t t′ : List ℕ) (k : ℕ) where
     by-done (refused i) e = absurd (refused-done i n (sym (ap (λ (w : Left Counts). w .answer) e)))
     by-done (done y) e =
         let counts : n ≡ y .counts = same (ap (λ (w : Left Counts). w .answer) e) in
-        told (replied (done y)) k m t t′ (a ∙ ap (λ x. length (doneText x)) counts) (ap (λ (w : Left Counts). w .bytes) e) (b ∙ ap (λ x. over 0 (doneText x) t) counts)
+        told (replied (done y)) k m t t′ (a ∙ ap (λ x. length (doneText x)) counts) (ap (λ (w : Left Counts). w .bytes) e)
+        (b ∙ ap (λ x. over 0 (doneText x) t) counts)
       where
         same : done n ≡ done (y .counts) → n ≡ y .counts
         same h = cc
@@ -59,10 +61,12 @@ module _ (c : Call) (l m t t′ : List ℕ) (k : ℕ) where
         by (holds s f) = holds s (by-done (answer (settingsIn l) c (indexOf l)) f)
 
   module _ (n : ℕ) (a : k ≡ length (refusedText n)) (b : t′ ≡ over 0 (refusedText n) t) where
-    refusing-by : (i : ℕ) → _≡_ {A = Left Counts} (refused n leaving m) (refused i leaving l) → record { count = k; pool = m; text = t′ } ≡ outcome t (refusing l i)
+    refusing-by : (i : ℕ) → _≡_ {A = Left Counts} (refused n leaving m) (refused i leaving l)
+        → record { count = k; pool = m; text = t′ } ≡ outcome t (refusing l i)
     refusing-by i e =
         let number : n ≡ i = same (ap (λ (w : Left Counts). w .answer) e) in
-        told (refusing l i) k m t t′ (a ∙ ap (λ x. length (refusedText x)) number) (ap (λ (w : Left Counts). w .bytes) e) (b ∙ ap (λ x. over 0 (refusedText x) t) number)
+        told (refusing l i) k m t t′ (a ∙ ap (λ x. length (refusedText x)) number) (ap (λ (w : Left Counts). w .bytes) e)
+        (b ∙ ap (λ x. over 0 (refusedText x) t) number)
       where
         same : _≡_ {A = Answer Counts} (refused n) (refused i) → n ≡ i
         same h = cc
@@ -158,7 +162,8 @@ module _ (r : Reading) (w : Wanted) (e : r ≡ readingOf w) where
 
   pub record Keys (m : ℕ) : Type 0 where
     pub keys : m ≤ length (r .keys)
-    pub answers : (l t : List ℕ) (a : Outcome) → Changes (record { operation = Op.Remove; places = []; sizes = []; keys = take m (r .keys) }) l t a → Answers w l t a
+    pub answers : (l t : List ℕ) (a : Outcome) → Changes (record { operation = Op.Remove; places = []; sizes = []; keys = take m (r .keys) }) l t a
+        → Answers w l t a
 
   pub keys-alone : (m : ℕ) → r .order ≡ Read.Drop m → Keys m
   keys-alone m o =

@@ -1,11 +1,11 @@
 -- What a line asks for, by its first word. Assumes nothing.
-use Prim.Native.Nat.{ℕ, zero, suc, _+_, _-_, _<_, _≤_}
+use Prim.Native.Nat.{ℕ, zero, suc, _-_, _<_, _≤_}
 use native.Mathlib.Omega.{arith}
 use mathlib.Core.Path.{_≡_, refl, ap, sym, _∙_}
 use mathlib.Core.Logic.{_≢_}
-use mathlib.Core.Bool.{Bool, true, false, cond, _&&_, true≢false}
+use mathlib.Core.Bool.{true, false, true≢false}
 use mathlib.Core.List.{List, [], _∷_, _++_, map}
-use mathlib.Core.Option.{Option, none, some}
+use mathlib.Core.Option.{Option, some}
 use lib.Dec.{eqb}
 use lib.ListN.{length, take, drop, replicate, length-drop, take-append-drop}
 use lib.Seq.{length-take-le}
@@ -16,7 +16,8 @@ use Rattle.model.proofs.Lists.{both-right}
 use Rattle.desk_orders.specs.declared.Order.the-variants as Read
 use Rattle.desk_orders.specs.declared.Reading.{Reading}
 use Rattle.desk_lines.specs.Parts.{longest}
-use Rattle.desk_orders.specs.Orders.{Wanted, malformed, dump, begins, isEmpty, set-word, drop-word, dump-word, setting, dropping, asked, wanted, rowsIn, fields, placed, reading, readingOf}
+use Rattle.desk_orders.specs.Orders.{malformed, dump, begins, isEmpty, set-word, drop-word, dump-word, setting, dropping}
+use Rattle.desk_orders.specs.Orders.{asked, wanted, rowsIn, fields, placed, reading, readingOf}
 use Rattle.desk_orders.specs.Numbers.{fieldsFrom, entriesOf, Lends, Past, rowsRead}
 
 -- a line is as long as the word that it begins with

@@ -2,9 +2,9 @@
 use Prim.Native.Nat.{ℕ, zero, suc, _+_, _*_, _^_, _≤_, _<_}
 use native.Mathlib.Omega.{arith}
 use native.Mathlib.Nat.{pow-le-pow-right}
-use mathlib.Core.Path.{_≡_, refl, sym, ap, _∙_, subst}
+use mathlib.Core.Path.{_≡_, refl, subst}
 use mathlib.Core.Bool.{Bool, true, false, cond, _&&_}
-use mathlib.Core.List.{List, [], _∷_, map}
+use mathlib.Core.List.{List, [], _∷_}
 use mathlib.Core.Option.{Option, none, some}
 use lib.Dec.{leb}
 use lib.ListN.{length, drop}
@@ -15,8 +15,9 @@ use Rattle.model.specs.Lists as Every
 use Rattle.model.specs.Sound.{Fits}
 use Rattle.model.specs.ReadFrame.{valueOf, isDigit}
 use Rattle.model.proofs.Lists.{all-of, all-map, by-test}
-use Rattle.desk_lines.specs.Parts.{longest, Kept, whole, tooLong, kept}
-use Rattle.desk_orders.specs.Orders.{Wanted, set, drops, dump, malformed, fields, digitsFrom, number, row, andRows, rowsIn, begins, isEmpty, set-word, drop-word, dump-word, setting, dropping, asked, ordered, wanted}
+use Rattle.desk_lines.specs.Parts.{longest, whole, tooLong}
+use Rattle.desk_orders.specs.Orders.{Wanted, set, drops, dump, malformed, fields, digitsFrom, number, row, andRows, rowsIn, begins}
+use Rattle.desk_orders.specs.Orders.{isEmpty, set-word, drop-word, dump-word, setting, dropping, asked, ordered, wanted}
 use Rattle.desk_orders.proofs.Spelt.{value-more}
 
 no-number : {A : Type 0} {x : A} → none ≡ some x → ⊥
@@ -62,7 +63,8 @@ row-fits none p z e a b c h = absurd (no-number h)
 
 -- ROWS
 
-and-fits : (o : Option Entry) (os : Option (List Entry)) (es : List Entry) → ((e : Entry) → o ≡ some e → Fits e) → ((fs : List Entry) → os ≡ some fs → All Fits fs)
+and-fits : (o : Option Entry) (os : Option (List Entry)) (es : List Entry) → ((e : Entry) → o ≡ some e → Fits e)
+    → ((fs : List Entry) → os ≡ some fs → All Fits fs)
     → andRows o os ≡ some es → All Fits es
 and-fits (some e) (some fs) es f g h = subst (All Fits) (same h) (Every.one (f e refl) (g fs refl))
   where

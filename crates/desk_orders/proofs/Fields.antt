@@ -5,7 +5,7 @@ use mathlib.Core.Path.{_≡_, refl, ap, sym, _∙_}
 use mathlib.Core.Bool.{Bool, true, false, cond}
 use mathlib.Core.List.{List, [], _∷_, _++_, append-assoc, append-nil}
 use mathlib.Core.Option.{Option, none, some}
-use lib.Dec.{eqb, ltb, leb}
+use lib.Dec.{eqb, ltb}
 use lib.ListN.{length, take, drop, set, length-drop, length-take, length-set}
 use lib.Seq.{drop-drop, take-suc-set, drop-set-lt}
 use native.Mathlib.Numerals.{add-one}
@@ -16,7 +16,6 @@ use Rattle.desk_orders.specs.Orders.{fields, number, rowsIn, andRows, ro
 use Rattle.desk_orders.specs.Numbers.{fieldAt, fieldsFrom, firstNumber, entriesOf, rowsRead, Lends, Past, NumberAt, NextAt}
 use Rattle.desk_orders.specs.declared.digits.Number.{Number}
 use Rattle.desk_orders.specs.declared.digits.Number.the-variants as N
-use Rattle.desk_lines.proofs.Finds.{up-to-length}
 
 -- the fields behind the first
 abbrev behind : List ℕ → List (List ℕ)
@@ -50,7 +49,8 @@ unfolding upTo
 behind-some [] h = absurd (omega arith)
 behind-some (b ∷ bs) h = by (eqb b 32) h (behind-some bs)
   where
-    by : (c : Bool) → length (cond c [] (b ∷ upTo 32 bs)) < length (b ∷ bs) → (length (upTo 32 bs) < length bs → behind bs ≡ fields (drop (suc (length (upTo 32 bs))) bs))
+    by : (c : Bool) → length (cond c [] (b ∷ upTo 32 bs)) < length (b ∷ bs)
+        → (length (upTo 32 bs) < length bs → behind bs ≡ fields (drop (suc (length (upTo 32 bs))) bs))
         → cond c (fields bs) (behind bs) ≡ fields (drop (length (cond c [] (b ∷ upTo 32 bs))) bs)
     by true g f = refl
     by false g f = f (omega arith)
@@ -213,7 +213,8 @@ module _ {triples : Bool} {l : List ℕ} {from : ℕ} {ks₀ ps₀ zs₀ ks ps z
   pub rows-bad : rowsIn triples (fieldsFrom l at) ≡ none → none ≡ rowsIn triples (fieldsFrom l from)
   rows-bad e = sym (ap (joinRows (firsts n ks ps zs)) e) ∙ r .going
 
-  pub rows-more : (k p z e : ℕ) → rowsIn triples (fieldsFrom l at) ≡ andRows (some (record { key = k; place = p; size = z })) (rowsIn triples (fieldsFrom l (e + 1)))
+  pub rows-more : (k p z e : ℕ)
+      → rowsIn triples (fieldsFrom l at) ≡ andRows (some (record { key = k; place = p; size = z })) (rowsIn triples (fieldsFrom l (e + 1)))
       → at < e → e ≤ length l → SoFar triples l from ks₀ ps₀ zs₀ (set ks n k) (set ps n p) (set zs n z) (e + 1) (n + 1)
   rows-more k p z e q lt le =
       let lw : n < 128 = omega (arith, r .few, r .short) in
@@ -221,7 +222,8 @@ module _ {triples : Bool} {l : List ℕ} {from : ℕ} {ks₀ ps₀ zs₀ ks ps z
       let b : take (n + 1) (set ps n p) ≡ take n ps ++ (p ∷ []) = rw add-one (take-suc-set ps n p (omega (arith, r .lends .places))) in
       let c : take (n + 1) (set zs n z) ≡ take n zs ++ (z ∷ []) = rw add-one (take-suc-set zs n z (omega (arith, r .lends .sizes))) in
       let more : firsts (n + 1) (set ks n k) (set ps n p) (set zs n z) ≡ firsts n ks ps zs ++ (record { key = k; place = p; size = z } ∷ []) =
-      rw (a, b, c) (entries-more (take n ks) (take n ps) (take n zs) k p z (simp length-take (omega (arith, r .lends .keys, r .lends .places))) (simp length-take (omega (arith, r .lends .keys, r .lends .sizes)))) in
+      rw (a, b, c) (entries-more (take n ks) (take n ps) (take n zs) k p z (simp length-take (omega (arith, r .lends .keys, r .lends .places)))
+      (simp length-take (omega (arith, r .lends .keys, r .lends .sizes)))) in
       record {
         short = r .short;
         lends = record {
@@ -232,11 +234,13 @@ module _ {triples : Bool} {l : List ℕ} {from : ℕ} {ks₀ ps₀ zs₀ ks ps z
         few = omega (arith, r .few);
         within = omega arith;
         some = λ x. absurd (omega arith);
-        past = record { keys = past-set ks ks₀ n k (r .past .keys); places = past-set ps ps₀ n p (r .past .places); sizes = past-set zs zs₀ n z (r .past .sizes) };
+        past =
+            record { keys = past-set ks ks₀ n k (r .past .keys); places = past-set ps ps₀ n p (r .past .places); sizes = past-set zs zs₀ n z (r .past .sizes) };
         going = rw more (row-more (firsts n ks ps zs) _ (rowsIn triples (fieldsFrom l (e + 1)))) ∙ ap (joinRows (firsts n ks ps zs)) (sym q) ∙ r .going;
       }
 
-  pub rows-done : length l < at → (rowsRead n ks ps zs ≡ rowsIn triples (fieldsFrom l from)) × (Lends ks ps zs × ((n ≤ 128) × ((n ≡ 0 → ⊥) → Past n ks₀ ps₀ zs₀ ks ps zs)))
+  pub rows-done : length l < at
+      → (rowsRead n ks ps zs ≡ rowsIn triples (fieldsFrom l from)) × (Lends ks ps zs × ((n ≤ 128) × ((n ≡ 0 → ⊥) → Past n ks₀ ps₀ zs₀ ks ps zs)))
   unfolding rowsIn
   rows-done h = (by n (r .some) ∙ r .going, (r .lends, (omega (arith, r .few, r .short, r .within), λ no. r .past)))
     where

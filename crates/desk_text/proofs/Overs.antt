@@ -1,10 +1,10 @@
 -- Texts put one behind the other are one text. Assumes nothing.
-use Prim.Native.Nat.{ℕ, _+_, _-_, _≤_, _<_}
+use Prim.Native.Nat.{ℕ, _+_, _-_, _≤_}
 use native.Mathlib.Omega.{arith}
 use mathlib.Core.Path.{_≡_, refl, sym, ap, _∙_}
-use mathlib.Core.List.{List, [], _∷_, _++_, append-assoc}
+use mathlib.Core.List.{List, _++_, append-assoc}
 use lib.ListN.{length, take, drop, length-append, length-drop}
-use lib.Seq.{length-take-le, take-length, take-at, drop-at, drop-drop, drop-append-add, paste}
+use lib.Seq.{length-take-le, take-length, take-at, drop-drop, drop-append-add, paste}
 use Rattle.desk_text.specs.Texts.{over}
 
 module _ (at : ℕ) (s t : List ℕ) (room : at + length s ≤ length t) where

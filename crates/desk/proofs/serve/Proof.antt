@@ -1,9 +1,9 @@
--- Each turn takes some of what was read. Assumes nothing.
+-- `serve` meets its contract: each turn takes some of what was read, so the turns come to an end. Assumes nothing.
 use Rattle.desk_answers.proofs.Cuts.{turn-inside, turn-takes}
 use lib.Seq.{length-take-le}
 use lib.ListN.{length, drop, length-drop}
-use Prim.Native.Nat.{_-_, _≤_}
-use mathlib.Core.Path.{_≡_, refl, sym, ap, _∙_}
+use Prim.Native.Nat.{_-_, _≤_, _<_}
+use mathlib.Core.Path.{sym}
 use native.Mathlib.Omega.{arith}
 use borrow.Author.Needs.{needs}
 use Rattle.desk.proofs.serve.Statement.{statement}
@@ -24,26 +24,26 @@ array-share-prefix-text c = turn-inside _ _ _ _ _ (c .take-part .ensures)
 slice-aggregate-write-all : tie.Need-slice-aggregate-write-all Inv-loop μ-loop
 slice-aggregate-write-all c = sym (length-take-le _ _ (turn-inside _ _ _ _ _ (c .before .take-part .ensures)))
 
+-- a turn takes at least a byte, and no more than the rest
+takes : (c : tie.After-take-part Inv-loop μ-loop) →
+    let loop = c .before .before .before .before .before .before in
+    (0 < c .take-part .result .bytes) × (c .take-part .result .bytes ≤ length (loop .before .before .args .part .now) - loop .loop .from)
+takes c =
+    let loop = c .before .before .before .before .before .before in
+    let part = loop .before .before .args .part .now in
+    let from = loop .loop .from in
+    let long = length-take-le (length part - from) (drop from part) (omega (arith, length-drop from part)) in
+    let some = turn-takes _ _ _ _ _ (c .take-part .ensures) (omega (arith, long, c .before .before .before .before .before .loop-test .taken)) in
+    (some .0, omega (arith, some .1, long))
+
 add-from : tie.Need-add-from Inv-loop μ-loop
-add-from c =
-    let part = c .before .before .before .before .before .before .before .before .before .before .before .before .args .part .now in
-    let long = length-take-le (length part - c .before .before .before .before .before .before .before .before .before .before .loop .from) (drop (c .before .before .before .before .before .before .before .before .before .before .loop .from) part) (omega (arith, length-drop (c .before .before .before .before .before .before .before .before .before .before .loop .from) part)) in
-    let takes = turn-takes _ _ _ _ _ (c .before .before .before .before .take-part .ensures) (omega (arith, long, c .before .before .before .before .before .before .before .before .before .loop-test .taken)) in
-    search (needs, takes .0, takes .1, long)
+add-from c = search (needs, takes (c .before .before .before .before))
 
 loop-less : tie.Need-loop-less Inv-loop μ-loop
-loop-less c =
-    let part = c .before .before .before .before .before .before .before .before .before .before .before .before .args .part .now in
-    let long = length-take-le (length part - c .before .before .before .before .before .before .before .before .before .before .loop .from) (drop (c .before .before .before .before .before .before .before .before .before .before .loop .from) part) (omega (arith, length-drop (c .before .before .before .before .before .before .before .before .before .before .loop .from) part)) in
-    let takes = turn-takes _ _ _ _ _ (c .before .before .before .before .take-part .ensures) (omega (arith, long, c .before .before .before .before .before .before .before .before .before .loop-test .taken)) in
-    omega (arith, takes .0, takes .1, long)
+loop-less c = omega (arith, takes (c .before .before .before .before))
 
 loop-again : tie.Need-loop-again Inv-loop μ-loop
-loop-again c =
-    let part = c .before .before .before .before .before .before .before .before .before .before .before .before .args .part .now in
-    let long = length-take-le (length part - c .before .before .before .before .before .before .before .before .before .before .loop .from) (drop (c .before .before .before .before .before .before .before .before .before .before .loop .from) part) (omega (arith, length-drop (c .before .before .before .before .before .before .before .before .before .before .loop .from) part)) in
-    let takes = turn-takes _ _ _ _ _ (c .before .before .before .before .take-part .ensures) (omega (arith, long, c .before .before .before .before .before .before .before .before .before .loop-test .taken)) in
-    omega (arith, takes .0, takes .1, long)
+loop-again c = omega (arith, takes (c .before .before .before .before))
 
 pub serve-spec : {M : Type 1} → statement M
 serve-spec =

@@ -1,11 +1,12 @@
--- A line is read, and what it asks for is done. Assumes nothing.
+-- `answer` meets its contract: a line is read, and what it asks for is done. Assumes nothing.
 use Rattle.desk_answers.proofs.Tells.{told, too-long, not-too-long, rows, keys-alone, dumps, is-refused}
 use Rattle.desk_answers.specs.Replies.{refusing}
 use Rattle.desk_answers.specs.Promise.{Outcome, Answers}
-use Rattle.desk_orders.specs.Orders.{wanted}
+use Rattle.desk_lines.specs.Parts.{held}
+use Rattle.desk_orders.specs.Orders.{wanted, ordered}
 use lib.Seq.{length-take-le}
 use lib.ListN.{take}
-use mathlib.Core.Path.{_≡_, refl, sym, subst}
+use mathlib.Core.Path.{refl, sym, subst}
 use native.Mathlib.Omega.{arith}
 use borrow.Author.Needs.{needs}
 use Rattle.desk_answers.proofs.answer.Statement.{statement}
@@ -40,50 +41,60 @@ drop-keys-requires c κs =
     let s = keys-alone (r .result) w (r .ensures) _ (c .before .before .before .order2 .given .1) in
     (search needs, s .keys)
 
-returns-2 : tie.Need-returns-2
-returns-2 c =
-    let x = c .before .before .before .before .before .before .before .before .before .before .args in
-    let r = c .before .before .before .before .before .before .read-order in
-    let w = wanted (take (x .n) (x .line .now)) in
+-- what a line of the right length asks for is what was read of it
+as-read : (c : tie.After-read-order) (a : Outcome) →
+    let x = c .before .before .before .before .args in
     let l = x .pool .now in
     let t = x .text .now in
-    let a : Outcome = record { count = c .set-rows .result; pool = c .set-rows .last .0; text = c .set-rows .last .1 .1 .1 .0 } in
-    subst (λ v. Answers v l t a) (not-too-long (x .line .now) (x .n) (c .before .before .before .before .before .before .before .before .before .if1 .left))
-    (rows (r .result) w (r .ensures) _ (c .before .before .before .before .order .given .1) .answers l t a (c .set-rows .ensures))
+    Answers (wanted (take (x .n) (x .line .now))) l t a → Answers (ordered (held (record { count = x .n; bytes = x .line .now }))) l t a
+as-read c a =
+    let x = c .before .before .before .before .args in
+    subst (λ v. Answers v (x .pool .now) (x .text .now) a) (not-too-long (x .line .now) (x .n) (c .before .before .before .if1 .left))
+
+returns-2 : tie.Need-returns-2
+returns-2 c =
+    let read = c .before .before .before .before .before .before in
+    let x = read .before .before .before .before .args in
+    let r = read .read-order in
+    let s = c .set-rows in
+    let a : Outcome = record { count = s .result; pool = s .last .0; text = s .last .1 .1 .1 .0 } in
+    as-read read a
+    (rows (r .result) (wanted (take (x .n) (x .line .now))) (r .ensures) _ (c .before .before .before .before .order .given .1) .answers
+    (x .pool .now) (x .text .now) a (s .ensures))
 
 returns-3 : tie.Need-returns-3
 returns-3 c =
-    let x = c .before .before .before .before .before .before .before .before .before .before .args in
-    let r = c .before .before .before .before .before .before .read-order in
-    let w = wanted (take (x .n) (x .line .now)) in
-    let l = x .pool .now in
-    let t = x .text .now in
-    let a : Outcome = record { count = c .drop-keys .result; pool = c .drop-keys .last .0; text = c .drop-keys .last .1 .1 .1 .0 } in
-    subst (λ v. Answers v l t a) (not-too-long (x .line .now) (x .n) (c .before .before .before .before .before .before .before .before .before .if1 .left))
-    (keys-alone (r .result) w (r .ensures) _ (c .before .before .before .before .order2 .given .1) .answers l t a (c .drop-keys .ensures))
+    let read = c .before .before .before .before .before .before in
+    let x = read .before .before .before .before .args in
+    let r = read .read-order in
+    let s = c .drop-keys in
+    let a : Outcome = record { count = s .result; pool = s .last .0; text = s .last .1 .1 .1 .0 } in
+    as-read read a
+    (keys-alone (r .result) (wanted (take (x .n) (x .line .now))) (r .ensures) _ (c .before .before .before .before .order2 .given .1) .answers
+    (x .pool .now) (x .text .now) a (s .ensures))
 
 returns-4 : tie.Need-returns-4
 returns-4 c =
-    let x = c .before .before .before .before .before .before .before .before .before .before .args in
-    let r = c .before .before .before .before .before .before .read-order in
-    let w = wanted (take (x .n) (x .line .now)) in
+    let read = c .before .before .before .before .before .before in
+    let x = read .before .before .before .before .args in
     let l = x .pool .now in
-    let t = x .text .now in
+    let r = read .read-order in
     let a : Outcome = record { count = c .dump .result; pool = l; text = c .dump .last .1 .0 } in
-    subst (λ v. Answers v l t a) (not-too-long (x .line .now) (x .n) (c .before .before .before .before .before .before .before .before .before .if1 .left))
-    (dumps (r .result) w (r .ensures) (c .before .before .before .before .enum-told .given .1) l t a (c .dump .ensures))
+    as-read read a (dumps (r .result) (wanted (take (x .n) (x .line .now))) (r .ensures) (c .before .before .before .before .enum-told .given .1) l
+    (x .text .now) a (c .dump .ensures))
 
 returns-5 : tie.Need-returns-5
 returns-5 c =
-    let x = c .before .before .before .before .before .before .before .before .args in
-    let r = c .before .before .before .before .read-order in
-    let w = wanted (take (x .n) (x .line .now)) in
+    let read = c .before .before .before .before in
+    let x = read .before .before .before .before .args in
     let l = x .pool .now in
     let t = x .text .now in
-    let a : Outcome = record { count = c .say-refused2 .result; pool = l; text = c .say-refused2 .last .0 } in
-    subst (λ v. Answers v l t a) (not-too-long (x .line .now) (x .n) (c .before .before .before .before .before .before .before .if1 .left))
-    (is-refused (r .result) w (r .ensures) (c .before .before .enum-told2 .given .1) l t a
-    (told (refusing l 15) (c .say-refused2 .result) l t (c .say-refused2 .last .0) (c .say-refused2 .ensures .0) refl (c .say-refused2 .ensures .1)))
+    let r = read .read-order in
+    let s = c .say-refused2 in
+    let a : Outcome = record { count = s .result; pool = l; text = s .last .0 } in
+    as-read read a
+    (is-refused (r .result) (wanted (take (x .n) (x .line .now))) (r .ensures) (c .before .before .enum-told2 .given .1) l t a
+    (told (refusing l 15) (s .result) l t (s .last .0) (s .ensures .0) refl (s .ensures .1)))
 
 pub answer-spec : {M : Type 1} → statement M
 answer-spec =

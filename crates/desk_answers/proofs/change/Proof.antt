@@ -1,4 +1,4 @@
--- A batch, and what it answered as text. Assumes nothing.
+-- `change` meets its contract: a batch, and what it answered as text. Assumes nothing.
 use Rattle.model.specs.Refuse.{Call}
 use Rattle.desk_answers.proofs.Tells.{batch-done, batch-refused}
 use borrow.Author.Needs.{needs}
@@ -7,19 +7,25 @@ use Rattle.desk_answers.proofs.change.Tie as tie
 
 returns : tie.Need-returns
 returns c =
-    let a = c .before .before .before .before .before .before .before .before .before .before .before .before .before .before .before .before .args in
+    let said = c .before .before in
+    let changed = said .before .before .before .before .before .before .before in
+    let start = changed .before .before .before .before .before .before .before in
+    let a = start .args in
     let call : Call = record { operation = a .op; places = a .places .now; sizes = a .sizes .now; keys = a .keys .now } in
-    let b = c .before .before .before .before .before .before .before .before .before .batch in
-    let d = c .before .before .say-done .ensures in
-    batch-done call (a .pool .now) _ (a .text .now) _ _ _ (d .0) (d .1) (b .result) (c .before .before .before .before .before .counts .given .1) (b .ensures)
+    let b = changed .batch in
+    let d = said .say-done .ensures in
+    batch-done call (a .pool .now) _ (a .text .now) _ _ _ (d .0) (d .1) (b .result) (said .before .before .before .counts .given .1) (b .ensures)
 
 returns-2 : tie.Need-returns-2
 returns-2 c =
-    let a = c .before .before .before .before .before .before .before .before .before .before .before .before .before .before .before .before .args in
+    let said = c .before .before in
+    let changed = said .before .before .before .before .before .before .before in
+    let start = changed .before .before .before .before .before .before .before in
+    let a = start .args in
     let call : Call = record { operation = a .op; places = a .places .now; sizes = a .sizes .now; keys = a .keys .now } in
-    let b = c .before .before .before .before .before .before .before .before .before .batch in
-    let d = c .before .before .say-refused .ensures in
-    batch-refused call (a .pool .now) _ (a .text .now) _ _ _ (d .0) (d .1) (b .result) (c .before .before .before .before .before .n .given .1) (b .ensures)
+    let b = changed .batch in
+    let d = said .say-refused .ensures in
+    batch-refused call (a .pool .now) _ (a .text .now) _ _ _ (d .0) (d .1) (b .result) (said .before .before .before .n .given .1) (b .ensures)
 
 pub change-spec : {M : Type 1} → statement M
 change-spec =

@@ -1,4 +1,4 @@
--- The first keys of what was read are the batch. Assumes nothing.
+-- `drop_keys` meets its contract: the first keys of what was read are the batch. Assumes nothing.
 use lib.Seq.{length-take-le}
 use mathlib.Core.Path.{sym}
 use borrow.Author.Needs.{needs}

@@ -1,8 +1,8 @@
--- The desk settings are in limits, and the length is exact. Assumes nothing.
+-- `open` meets its contract: the settings of the desk are in limits, and the length is exact. Assumes nothing.
 use Rattle.index.proofs.Register.{by-sound}
 use Rattle.model.specs.Sound.{InLimits}
 use Rattle.desk_answers.specs.Program.{desk}
-use mathlib.Core.Path.{_≡_, refl, sym, ap, _∙_}
+use mathlib.Core.Path.{ap}
 use native.Mathlib.Omega.{arith}
 use borrow.Author.Needs.{needs}
 use Rattle.desk_answers.proofs.open.Statement.{statement}
@@ -10,7 +10,8 @@ use Rattle.desk_answers.proofs.open.Tie as tie
 
 returns : tie.Need-returns
 returns c =
-    let limits : InLimits desk = record { many = omega arith; bounded = omega arith; wide = omega arith; narrow = omega arith; some = omega arith; least = omega arith } in
+    let limits : InLimits desk =
+    record { many = omega arith; bounded = omega arith; wide = omega arith; narrow = omega arith; some = omega arith; least = omega arith } in
     ap (λ w. w .bytes) (by-sound (limits, c .before .open-arg .given .0 .1) (c .«open» .ensures))
 
 pub open-spec : {M : Type 1} → statement M

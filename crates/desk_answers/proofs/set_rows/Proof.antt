@@ -1,4 +1,4 @@
--- The first rows of what was read are the batch. Assumes nothing.
+-- `set_rows` meets its contract: the first rows of what was read are the batch. Assumes nothing.
 use lib.Seq.{length-take-le}
 use mathlib.Core.Path.{sym}
 use borrow.Author.Needs.{needs}

@@ -1,9 +1,9 @@
--- A text is copied byte by byte. Assumes nothing.
-use lib.ListN.{length-set, length, getD}
+-- `put` meets its contract. The loop's invariant: the first bytes of the text are copied. Assumes nothing.
+use lib.ListN.{length-set, length}
 use Rattle.desk_text.proofs.Overs.{over-paste}
 use lib.Seq.{paste, paste-zero, paste-suc}
-use Prim.Native.Nat.{_+_, _-_, _≤_}
-use mathlib.Core.Path.{_≡_, refl, sym, ap, _∙_}
+use Prim.Native.Nat.{_-_, _≤_}
+use mathlib.Core.Path.{_≡_, refl, ap, _∙_}
 use native.Mathlib.Numerals.{add-one}
 use native.Mathlib.Omega.{arith}
 use borrow.Author.Needs.{needs}

@@ -1,7 +1,7 @@
+-- `read_number` meets its contract. The loop's invariant: `value` is the number that the digits before place i spell (`Spelling`). Assumes nothing.
 use borrow.Author.Needs.{needs}
-use native.Mathlib.Omega.{arith}
-use Prim.Native.Nat.{ℕ, _-_, _≤_}
-use mathlib.Core.Path.{_≡_, refl, sym, ap, _∙_, subst}
+use Prim.Native.Nat.{_-_, _≤_}
+use mathlib.Core.Path.{sym, subst}
 use Rattle.desk_lines.proofs.Finds.{end-from, end-within}
 use Rattle.desk_orders.proofs.Spelt.{Spelling, spelling, spelt-more, spelt-bad, spelt-done, spelt-small, number-empty, number-long}
 use Rattle.desk_orders.proofs.digits.read_number.Statement.{statement}
@@ -31,14 +31,21 @@ returns-3 c =
     spelt-bad s (c .before .before .before .loop-test .taken) (subst (λ n. 16 ≤ n) (c .before .value-of .ensures .0) (c .if3 .taken))
 
 mul-value : tie.Need-mul-value Inv-loop μ-loop
-mul-value c = search (needs, spelt-small (c .before .before .before .before .loop .inv) (c .before .before .before .loop-test .taken) (c .before .before .before .before .before .before .before .before .before .pre .1))
+mul-value c =
+    let loop = c .before .before .before .before in
+    let start = loop .before .before .before .before .before in
+    search (needs, spelt-small (loop .loop .inv) (c .before .before .before .loop-test .taken) (start .pre .1))
 
 add-value : tie.Need-add-value Inv-loop μ-loop
-add-value c = search (needs, spelt-small (c .before .before .before .before .loop .inv) (c .before .before .before .loop-test .taken) (c .before .before .before .before .before .before .before .before .before .pre .1))
+add-value c =
+    let loop = c .before .before .before .before in
+    let start = loop .before .before .before .before .before in
+    search (needs, spelt-small (loop .loop .inv) (c .before .before .before .loop-test .taken) (start .pre .1))
 
 loop-again : tie.Need-loop-again Inv-loop μ-loop
 loop-again c =
-    let s = c .before .before .before .before .loop .inv in spelt-more s _ (c .before .value-of .ensures .0) (c .before .before .before .loop-test .taken) (c .if3 .left)
+    let s = c .before .before .before .before .loop .inv in
+    spelt-more s _ (c .before .value-of .ensures .0) (c .before .before .before .loop-test .taken) (c .if3 .left)
 
 returns-4 : tie.Need-returns-4 Inv-loop μ-loop
 returns-4 c =

@@ -1,5 +1,5 @@
--- The rows of a `set`, by value. Assumes nothing.
-use mathlib.Core.Path.{_≡_, refl, sym, ap, _∙_}
+-- `read_set` meets its contract: what is read is the rows of a `set`, by value. Assumes nothing.
+use mathlib.Core.Path.{refl, _∙_}
 use Rattle.desk_orders.proofs.Asks.{set-bad, set-good}
 use borrow.Author.Needs.{needs}
 use Rattle.desk_orders.proofs.read.read_set.Statement.{statement}

@@ -1,8 +1,7 @@
+-- `starts` meets its contract. The loop's invariant: the line begins with the word exactly if it does so from byte i on. Assumes nothing.
 use borrow.Author.Needs.{needs}
-use native.Mathlib.Omega.{arith}
-use Prim.Native.Nat.{ℕ, zero, suc, _+_, _-_, _*_, _^_, _≤_, _<_}
-use mathlib.Core.Path.{_≡_, refl, sym, ap, _∙_}
-use mathlib.Core.List.{List, []}
+use Prim.Native.Nat.{_-_}
+use mathlib.Core.Path.{_≡_, refl, sym, _∙_}
 use lib.ListN.{length, drop}
 use Rattle.desk_orders.specs.Orders.{begins}
 use Rattle.desk_orders.proofs.Begins.{all, short, differs, more}

@@ -1,7 +1,6 @@
+-- `next_number` meets its contract: where the line goes on, a space ends the field, and the next one begins behind it. Assumes nothing.
 use native.Mathlib.Omega.{arith}
 use Rattle.desk_orders.proofs.Fields.{next-none, next-is}
-use Rattle.desk_orders.specs.Numbers.{NumberAt, NextAt, RowAt, fieldsFrom, fieldAt, firstNumber}
-use mathlib.Core.Path.{_≡_, refl, sym, ap, _∙_, subst}
 use borrow.Author.Needs.{needs}
 use Rattle.desk_orders.proofs.rows.next_number.Statement.{statement}
 use Rattle.desk_orders.proofs.rows.next_number.Tie as tie
@@ -12,7 +11,8 @@ returns c = let a = c .before .before .args in next-none (a .line .now) (a .end)
 returns-2 : tie.Need-returns-2
 returns-2 c =
     let a = c .before .before .before .args in
-    next-is (a .line .now) (a .end) (a .most) (c .read-number .result) (omega (arith, c .before .before .before .pre .0, c .before .if1 .left)) (c .read-number .ensures)
+    next-is (a .line .now) (a .end) (a .most) (c .read-number .result) (omega (arith, c .before .before .before .pre .0, c .before .if1 .left))
+    (c .read-number .ensures)
 
 pub next-number-spec : {M : Type 1} → statement M
 next-number-spec = tie.close (tie.spec returns (λ c. search needs) (λ c κs. search needs) returns-2)

@@ -1,6 +1,7 @@
+-- `read_key` meets its contract: a row is one number. Assumes nothing.
 use Rattle.desk_orders.proofs.Fields.{key-bad, key-good}
-use Rattle.desk_orders.specs.Numbers.{NumberAt, NextAt, RowAt, fieldsFrom, fieldAt, firstNumber}
-use mathlib.Core.Path.{_≡_, refl, sym, ap, _∙_, subst}
+use Rattle.desk_orders.specs.Numbers.{NumberAt}
+use mathlib.Core.Path.{subst}
 use borrow.Author.Needs.{needs}
 use Rattle.desk_orders.proofs.rows.read_key.Statement.{statement}
 use Rattle.desk_orders.proofs.rows.read_key.Tie as tie

@@ -1,5 +1,6 @@
-use Rattle.desk_orders.specs.Numbers.{NumberAt, NextAt, RowAt, fieldsFrom, fieldAt, firstNumber}
-use mathlib.Core.Path.{_≡_, refl, sym, ap, _∙_, subst}
+-- `read_row` meets its contract: a triple or a key, as is asked for. Assumes nothing.
+use Rattle.desk_orders.specs.Numbers.{RowAt}
+use mathlib.Core.Path.{sym, subst}
 use borrow.Author.Needs.{needs}
 use Rattle.desk_orders.proofs.rows.read_row.Statement.{statement}
 use Rattle.desk_orders.proofs.rows.read_row.Tie as tie

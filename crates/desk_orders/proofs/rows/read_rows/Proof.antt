@@ -1,9 +1,9 @@
--- The rows of a line, one a turn. Assumes nothing.
+-- `read_rows` meets its contract. The loop's invariant: the rows up to `at` are read (`SoFar`). Assumes nothing.
 use borrow.Author.Needs.{needs}
 use native.Mathlib.Omega.{arith}
 use Prim.Native.Nat.{_-_, _+_}
 use lib.ListN.{length}
-use mathlib.Core.Path.{_≡_, refl, sym, ap, _∙_, subst}
+use mathlib.Core.Path.{refl, sym, _∙_, subst}
 use Rattle.desk_orders.specs.Numbers.{RowAt}
 use Rattle.desk_orders.proofs.Fields.{SoFar, none-yet, rows-bad, rows-more, rows-done}
 use Rattle.desk_orders.proofs.rows.read_rows.Statement.{statement}
@@ -19,13 +19,22 @@ loop-holds : tie.Need-loop-holds Inv-loop μ-loop
 loop-holds c = let p = c .before .before .before .before .pre in none-yet _ _ _ _ _ _ (p .1 .0) (p .1 .1) (p .1 .2) (p .0)
 
 same-length : tie.Need-same-length Inv-loop μ-loop
-same-length c = c .before .before .before .before .loop .inv .lends .keys ∙ sym (c .before .before .before .before .before .before .before .before .before .pre .0 .keys)
+same-length c =
+    let loop = c .before .before .before .before in
+    let start = loop .before .before .before .before .before in
+    loop .loop .inv .lends .keys ∙ sym (start .pre .0 .keys)
 
 same-length-2 : tie.Need-same-length-2 Inv-loop μ-loop
-same-length-2 c = c .before .before .before .before .loop .inv .lends .places ∙ sym (c .before .before .before .before .before .before .before .before .before .pre .0 .places)
+same-length-2 c =
+    let loop = c .before .before .before .before in
+    let start = loop .before .before .before .before .before in
+    loop .loop .inv .lends .places ∙ sym (start .pre .0 .places)
 
 same-length-3 : tie.Need-same-length-3 Inv-loop μ-loop
-same-length-3 c = c .before .before .before .before .loop .inv .lends .sizes ∙ sym (c .before .before .before .before .before .before .before .before .before .pre .0 .sizes)
+same-length-3 c =
+    let loop = c .before .before .before .before in
+    let start = loop .before .before .before .before .before in
+    loop .loop .inv .lends .sizes ∙ sym (start .pre .0 .sizes)
 
 returns : tie.Need-returns Inv-loop μ-loop
 returns c =
