@@ -1,3 +1,4 @@
+-- `feed` is safe and ends: a byte of what was read a turn. Assumes nothing.
 use Prim.Native.Nat.{_-_}
 use borrow.Author.Needs.{needs}
 use Rattle.trial_replay.proofs.feed.Statement.{statement}

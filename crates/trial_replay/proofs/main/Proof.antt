@@ -1,3 +1,4 @@
+-- `main` is safe and ends: a read a turn, and the turns are numbered down. Assumes nothing.
 use borrow.Author.Needs.{needs}
 use Rattle.trial_replay.proofs.main.Statement.{statement}
 use Rattle.trial_replay.proofs.main.Tie as tie

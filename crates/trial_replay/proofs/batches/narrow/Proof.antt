@@ -1,3 +1,4 @@
+-- `narrow` is safe and ends: a size a turn, and there stay as many. Assumes nothing.
 use mathlib.Core.Path.{_≡_}
 use lib.ListN.{length}
 use Prim.Native.Nat.{_-_}

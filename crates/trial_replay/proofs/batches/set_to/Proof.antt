@@ -1,3 +1,4 @@
+-- `set_to` is safe: the sizes that are lent are a first part. Assumes nothing.
 use native.Mathlib.Omega.{arith}
 use mathlib.Core.Path.{sym}
 use lib.Seq.{length-take-le}

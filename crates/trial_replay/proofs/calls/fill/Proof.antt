@@ -1,3 +1,4 @@
+-- `fill` is safe and ends: a byte a turn, and the pool stays as long as it was. Assumes nothing.
 use mathlib.Core.Path.{_≡_}
 use lib.ListN.{length}
 use Prim.Native.Nat.{_-_}

@@ -1,3 +1,4 @@
+-- `replay` is safe: what is lent to the call is a first part of the pool. Assumes nothing.
 use native.Mathlib.Omega.{arith}
 use mathlib.Core.Path.{sym}
 use lib.Seq.{length-take-le}

@@ -1,3 +1,4 @@
+-- `check_entries` is safe and ends: a word of the entries a turn. Assumes nothing.
 use Prim.Native.Nat.{_-_}
 use borrow.Author.Needs.{needs}
 use Rattle.trial_replay.proofs.frames.check_entries.Statement.{statement}

@@ -1,3 +1,4 @@
+-- `read_first` is safe: the line is a first part of the text. Assumes nothing.
 use native.Mathlib.Omega.{arith}
 use mathlib.Core.Path.{sym}
 use lib.Seq.{length-take-le}

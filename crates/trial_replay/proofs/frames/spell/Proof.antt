@@ -1,3 +1,4 @@
+-- `spell` is safe and ends: a byte of the text a turn. Assumes nothing.
 use Prim.Native.Nat.{_-_}
 use borrow.Author.Needs.{needs}
 use Rattle.trial_replay.proofs.frames.spell.Statement.{statement}

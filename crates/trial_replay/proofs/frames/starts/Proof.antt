@@ -1,3 +1,4 @@
+-- `starts` is safe and ends: a byte of the line a turn. Assumes nothing.
 use Prim.Native.Nat.{_-_}
 use borrow.Author.Needs.{needs}
 use Rattle.trial_replay.proofs.frames.starts.Statement.{statement}

@@ -1,3 +1,4 @@
+-- `look` is safe: as much room as is lent is there. Assumes nothing.
 use native.Mathlib.Omega.{arith}
 use mathlib.Core.Path.{sym}
 use lib.Seq.{length-take-le}

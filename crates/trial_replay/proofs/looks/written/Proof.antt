@@ -1,3 +1,4 @@
+-- `written` is safe and ends: a byte a turn, up to the end of the output. Assumes nothing.
 use Prim.Native.Nat.{_-_}
 use borrow.Author.Needs.{needs}
 use Rattle.trial_replay.proofs.looks.written.Statement.{statement}

@@ -1,3 +1,4 @@
+-- `check_first` is safe and ends: a byte a turn. Assumes nothing.
 use Prim.Native.Nat.{_-_}
 use borrow.Author.Needs.{needs}
 use Rattle.trial_replay.proofs.told.check_first.Statement.{statement}

@@ -1,3 +1,4 @@
+-- `check_word` is safe and ends: a byte of the word a turn. Assumes nothing.
 use Prim.Native.Nat.{_-_}
 use borrow.Author.Needs.{needs}
 use Rattle.trial_replay.proofs.told.check_word.Statement.{statement}

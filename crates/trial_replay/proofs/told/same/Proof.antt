@@ -1,3 +1,4 @@
+-- `same` is safe and ends: one of six answers a turn. Assumes nothing.
 use Prim.Native.Nat.{_-_}
 use borrow.Author.Needs.{needs}
 use Rattle.trial_replay.proofs.told.same.Statement.{statement}
