@@ -18,7 +18,8 @@ use Rattle.model.specs.Contracts.{flat, Rising, Grants, Given, Enough}
 use Rattle.model.proofs.Lists.{all-left}
 use Rattle.model.proofs.Plain.{list-all, list-long}
 use Rattle.model.proofs.Changes.{did-left, did-rising, Owes}
-use Rattle.model.proofs.Batches.{Fine, RootSettled, Room, calling, called, after-call, call-given, call-owes, call-settled, call-fewer, call-enough, call-two, call-slots, call-room}
+use Rattle.model.proofs.Batches.{Fine, RootSettled, Room, calling, called, after-call}
+use Rattle.model.proofs.Batches.{call-given, call-owes, call-settled, call-fewer, call-enough, call-two, call-slots, call-room}
 use Rattle.tree.specs.Bridge.{Apart}
 
 -- AN INDEX THAT CAN TAKE THE TASKS ts

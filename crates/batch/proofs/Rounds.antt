@@ -54,7 +54,8 @@ pub record Running (st : Settings) (W₀ : List ℕ) (h₀ : ℕ) (op : Operatio
 
 -- THE START
 
-lent-each : (o : Operation) (ps zs ks : List ℕ) → (isEach o && not (eqb (length ps) (length ks) && eqb (length zs) (length ks))) ≡ false → Lent o ps zs (length ks)
+lent-each : (o : Operation) (ps zs ks : List ℕ) → (isEach o && not (eqb (length ps) (length ks) && eqb (length zs) (length ks))) ≡ false
+    → Lent o ps zs (length ks)
 lent-each (Op.Set r) ps zs ks e = tt
 lent-each Op.SetEach ps zs ks e =
     let both : (eqb (length ps) (length ks) && eqb (length zs) (length ks)) ≡ true = not-false _ e in
@@ -112,7 +113,8 @@ pub record Next (ts : List Task) : Type 0 where
   pub tasks : List Task
   pub left : ts ≡ task ∷ tasks
 
-module _ {st : Settings} {W₀ : List ℕ} {h₀ : ℕ} {op : Operation} {ps zs ks W : List ℕ} {h low at : ℕ} {c : Counts} (m : Running st W₀ h₀ op ps zs ks W h low at c) where
+module _ {st : Settings} {W₀ : List ℕ} {h₀ : ℕ} {op : Operation} {ps zs ks W : List ℕ} {h low at : ℕ} {c : Counts}
+    (m : Running st W₀ h₀ op ps zs ks W h low at c) where
   abbrev T : List Task
   T = tasksOf op ps zs ks
 
@@ -180,7 +182,8 @@ module _ {st : Settings} {W₀ : List ℕ} {h₀ : ℕ} {op : Operation} {ps zs 
 
       answers : Answers h ns ms (treeAt ns h 0) o (drop (r .next) T) ((r .result)) (r .counts)
       answers =
-          subst (λ (us : List Task). Answers h ns ms (treeAt ns h 0) (change st h noCeiling (treeAt ns h 0) us (runOf ns c)) (drop (r .next) T) ((r .result)) (r .counts))
+          subst (λ (us : List Task). Answers h ns ms (treeAt ns h 0) (change st h noCeiling (treeAt ns h 0) us (runOf ns c)) (drop (r .next) T)
+          (r .result) (r .counts))
           (n .left) (came .answers)
 
       -- the pool holds the root as the call left it
@@ -256,7 +259,8 @@ module _ {st : Settings} {W₀ : List ℕ} {h₀ : ℕ} {op : Operation} {ps zs 
             }
 
   -- THE END: no key is left
-  pub finish : {W′ : List ℕ} → length ks ≤ at → Becomes st W W′ (collapsed x) → Changed st W₀ W′ h₀ (record { operation = op; places = ps; sizes = zs; keys = ks }) c
+  pub finish : {W′ : List ℕ} → length ks ≤ at → Becomes st W W′ (collapsed x)
+      → Changed st W₀ W′ h₀ (record { operation = op; places = ps; sizes = zs; keys = ks }) c
   finish {W′} ge b =
       record {
         held = b .held;

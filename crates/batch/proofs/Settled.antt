@@ -59,7 +59,9 @@ module _ {st : Settings} {W : List ℕ} {h low : ℕ} {v : ChangeResult} (pre : 
   leaf-holds e =
       let rows : nth ns 0 .rows ≡ [] = ap (λ (n : S.Node). n .rows) node ∙ ap (map (rowFor h)) e in
       record {
-        tree = one (ap (nth leaf) (slot-read ns h 0) ∙ nth-same ns 0 bare (used-in ns 0 (node-used ns h 0 t node)) ∙ ap (λ (l : List Row). record { kind = 1; rows = l }) rows) none;
+        tree =
+            one (ap (nth leaf) (slot-read ns h 0) ∙ nth-same ns 0 bare (used-in ns 0 (node-used ns h 0 t node))
+            ∙ ap (λ (l : List Row). record { kind = 1; rows = l }) rows) none;
         unused = leaf-unused;
         blank = blank-set ns 0 bare (pre .keeps .holds .blank) (no-blank bare (kind-used 0));
       }

@@ -106,7 +106,8 @@ module _ {st : Settings} {W₀ : List ℕ} {h low : ℕ} (pre : Splits st W₀ h
           pub split-done : {r : ℕ} → Lowest (nodes st W₃) r → Halved st W₀ W₃ h r
           split-done l =
               record {
-                becomes = now-holds st W₀ W₃ (H.above top second b-in) _ (record { held = cr .held; is = crown-is; header = cr .header ∙ sp .header ∙ mv .header })
+                becomes =
+                    now-holds st W₀ W₃ (H.above top second b-in) _ (record { held = cr .held; is = crown-is; header = cr .header ∙ sp .header ∙ mv .header })
                     (H.above-holds top second b-in);
                 lowest = l;
               }

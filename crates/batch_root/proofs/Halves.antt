@@ -15,7 +15,7 @@ use Rattle.slots.proofs.Nodes.{nth-same}
 use Rattle.slots_raw.proofs.Over.{map-take, map-drop}
 use Rattle.slots.proofs.Finds.{below-set}
 use Rattle.model.specs.Lists.{times, All, none, one}
-use Rattle.model.specs.Tree.{Item, Tree, len, slots, lowest, others}
+use Rattle.model.specs.Tree.{Item, Tree, len, lowest, others}
 use Rattle.model.specs.Share.{half}
 use Rattle.model.specs.Change.{splitRoot}
 use Rattle.model.proofs.Lists.{all-append, all-left, all-right, all-head, all-tail, hit-same, hit-other}

@@ -20,7 +20,8 @@ use Rattle.batch_root.specs.Roots.{Becomes}
 pub root-read : (ns : List S.Node) (h : ℕ) (t : Tree h) → t .slot ≡ 0 → Light h t → Holds ns h t → treeAt ns h 0 ≡ t
 root-read ns h t e light k = ap (treeAt ns h) (sym e) ∙ held-tree ns h t light k
 
-pub index-read : (ns : List S.Node) (h : ℕ) (x : Index) → h ≡ x .height → x .root .slot ≡ 0 → length (entriesOf x) < 1048576 → HoldsIndex ns x → indexAt ns h ≡ x
+pub index-read : (ns : List S.Node) (h : ℕ) (x : Index) → h ≡ x .height → x .root .slot ≡ 0 → length (entriesOf x) < 1048576 → HoldsIndex ns x
+    → indexAt ns h ≡ x
 index-read ns h x eh e light k =
     ap (indexAt ns) eh
     ∙ ap (λ (t : Tree (x .height)). record { height = x .height; root = t; unused = unusedOf ns }) (root-read ns (x .height) (x .root) e light (k .tree))

@@ -3,7 +3,7 @@
 use mathlib.Core.Path.{_≡_, refl, sym, ap, _∙_, subst}
 use mathlib.Core.Logic.{_≢_}
 use mathlib.Core.List.{List, [], _∷_, _++_, map, append-nil}
-use Prim.Native.Nat.{ℕ, suc, _+_, _≤_, _<_}
+use Prim.Native.Nat.{ℕ, suc, _≤_, _<_}
 use native.Mathlib.Omega.{arith}
 use lib.ListN.{length, set, getD, length-map}
 use lib.Seq.{set-set, getD-set-other}
@@ -45,7 +45,8 @@ raised ns s c k ne h e =
     let l = nth ns s .rows in
     let bare : S.Node = record { kind = k; rows = [] } in
     let first : putKind (putRows ns s (without l 0 1)) s k ≡ set ns s (record { kind = k; rows = [] }) =
-    kind-set ns s (record { kind = nth ns s .kind; rows = without l 0 1 }) k h ∙ ap (λ (r : List Row). set ns s (record { kind = k; rows = r })) (none-left l e) in
+    kind-set ns s (record { kind = nth ns s .kind; rows = without l 0 1 }) k h
+    ∙ ap (λ (r : List Row). set ns s (record { kind = k; rows = r })) (none-left l e) in
     ap (λ (ms : List S.Node). joinNodes ms s c) first
     ∙ ap (λ (m : S.Node). put2 (set ns s bare) s (withRows m (m .rows ++ nth (set ns s bare) c .rows)) c unused) (nth-same ns s bare h)
     ∙ ap (λ (m : S.Node). put2 (set ns s bare) s (record { kind = k; rows = m .rows }) c unused) (getD-set-other ns s c bare unused ne)
@@ -112,7 +113,9 @@ module _ {ns : List S.Node} {h : ℕ} (p : Single ns h) where
   pub raise-holds : Blank ns → HoldsIndex raise (lifted ns h)
   raise-holds empty =
       record {
-        tree = one (put-first ns 0 top (child .slot) unused (λ e. child-root (sym e)) root-in ∙ top-is) (agree-items ns raise h (child .items) kept (all-tail child-held));
+        tree =
+            one (put-first ns 0 top (child .slot) unused (λ e. child-root (sym e)) root-in ∙ top-is)
+            (agree-items ns raise h (child .items) kept (all-tail child-held));
         unused = unused-released (set ns 0 top) (child .slot) (used-in (set ns 0 top) (child .slot) still) still
             ∙ ap (release (child .slot)) (unused-same ns 0 top (kind-used h) root-used);
         blank = blank-set (set ns 0 top) (child .slot) unused (blank-set ns 0 top empty (no-blank top (kind-used h))) (λ z. refl);

@@ -21,7 +21,8 @@ use Rattle.tree.proofs.SoundHolds.{slot-read}
 use Rattle.batch_root.specs.Batch.{indexAt}
 use Rattle.batch_root.specs.Roots.{Keeps, Becomes, Lone, lifted, collapsed}
 use Rattle.batch_root.proofs.Indexes.{index-read, now-holds}
-use Rattle.batch_root.proofs.Lifts.{none-left, raised, Single, child-root, child-in, raise, raise-holds, lifted-list, lifted-apart, lifted-same, ends-leaf, ends-wide}
+use Rattle.batch_root.proofs.Lifts.{none-left, raised, Single, child-root, child-in, raise, raise-holds}
+use Rattle.batch_root.proofs.Lifts.{lifted-list, lifted-apart, lifted-same, ends-leaf, ends-wide}
 
 single : {st : Settings} {W : List ℕ} {h : ℕ} → Lone st W h → Single (nodes st W) h
 single p = record { holds = p .keeps .holds .tree; apart = p .keeps .apart; one = p .one }
@@ -46,7 +47,8 @@ module _ {st : Settings} {W₀ : List ℕ} {h : ℕ} (pre : Lone st W₀ h) {row
     pub to-join : Give st W₂ child 0 (length (rowsAt st W₂ child))
     to-join =
         let bare : length (rowsAt st W₂ 0) ≡ 0 =
-        ap length (kept-same st W₁ W₂ 0 0 k kinded root-in ∙ own-rows st W₀ W₁ 0 (without (rowsAt st W₀ 0) 0 1) out root-in ∙ none-left (rowsAt st W₀ 0) (pre .one)) in
+        ap length (kept-same st W₁ W₂ 0 0 k kinded root-in ∙ own-rows st W₀ W₁ 0 (without (rowsAt st W₀ 0) 0 1) out root-in
+        ∙ none-left (rowsAt st W₀ 0) (pre .one)) in
         record {
           held = kinded .held;
           slot = omega (arith, slot-is, length-nodes st W₀, child-in (single pre));

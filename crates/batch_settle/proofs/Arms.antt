@@ -210,7 +210,8 @@ module _ {st : Settings} {W : List ℕ} {h s i low : ℕ} {v : ChangeResult} (t 
             held = x .held;
             header = x .header ∙ w .header;
             settled =
-                then-settled h s ns (nodes st W₁) (nodes st W₂) kids first q first-settled (subst (Settled h s (nodes st W₁) (nodes st W₂) kids) same (x .settled)) (λ z. refl);
+                then-settled h s ns (nodes st W₁) (nodes st W₂) kids first q first-settled
+                (subst (Settled h s (nodes st W₁) (nodes st W₂) kids) same (x .settled)) (λ z. refl);
           } in
           subst (λ (z : ChangeResult). Done st W W₂ h s i z r) (sym e)
           (ended-by st W W₂ h s u r b c a q refl (from-kids W₂ q m) (x .at ∙ ap (λ (p : Place (Tree h)). length (p .before)) same) (x .lowest))

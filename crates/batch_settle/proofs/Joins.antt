@@ -31,24 +31,31 @@ module _ (st : Settings) {X : Type 0} (p c : Node X) (a : List (Node X)) (us : L
   join-fits : len p + len c ≤ st .order → followed (join st p c us) a ≡ record { nodes = whole ∷ a; unused = release (c .slot) us }
   join-fits le = rw (le-leb (len whole) (st .order) (omega (arith, le, length-append (p .items) (c .items)))) refl
 
-  join-over : st .order < len p + len c → followed (join st p c us) a ≡ record { nodes = halved whole (c .slot) .lower ∷ halved whole (c .slot) .upper ∷ a; unused = us }
+  join-over : st .order < len p + len c
+      → followed (join st p c us) a ≡ record { nodes = halved whole (c .slot) .lower ∷ halved whole (c .slot) .upper ∷ a; unused = us }
   join-over lt = rw (lt-leb (len whole) (st .order) (omega (arith, lt, length-append (p .items) (c .items)))) refl
 
 -- TWO NEIGHBOURS, merged or levelled
 
-module _ (st : Settings) (W W₁ : List ℕ) (h s : ℕ) (b : List (Tree h)) (p c : Tree h) (a : List (Tree h)) (low : ℕ) where
+module _ {st : Settings} {W : List ℕ} {h s i : ℕ} {b : List (Tree h)} {p c : Tree h} {a : List (Tree h)} (t : Beside st W h s i b p c a) (W₁ : List ℕ)
+    (low : ℕ) where
   abbrev us : List ℕ
   us = unusedOf (nodes st W)
 
   abbrev Joined : Row (Tree h) → Type 0
   Joined q = Left st W W₁ h s low (kidsAt (nodes st W) h s) (stay b q)
 
-  pub merged-rowed : len p + len c ≤ st .order → Joined (record { nodes = refill p (p .items ++ c .items) ∷ a; unused = release (c .slot) us }) → Joined (followed (join st p c us) a)
+  pub merged-rowed : len p + len c ≤ st .order → Joined (record { nodes = refill p (p .items ++ c .items) ∷ a; unused = release (c .slot) us })
+      → Joined (followed (join st p c us) a)
   merged-rowed le x = subst Joined (sym (join-fits st p c a us le)) x
 
   pub even-rowed : st .order < len p + len c → Lowest (nodes st W) low
       → Came st W W₁ h s (kidsAt (nodes st W) h s)
-      (record { before = b; rest = halved (refill p (p .items ++ c .items)) (c .slot) .lower ∷ halved (refill p (p .items ++ c .items)) (c .slot) .upper ∷ a; unused = us })
+      (record {
+        before = b;
+        rest = halved (refill p (p .items ++ c .items)) (c .slot) .lower ∷ halved (refill p (p .items ++ c .items)) (c .slot) .upper ∷ a;
+        unused = us;
+      })
       → Joined (followed (join st p c us) a)
   even-rowed lt l m = subst Joined (sym (join-over st p c a us lt)) (record { came = m; lowest = low-same st W W₁ low l (m .settled .unused) })
 
@@ -82,7 +89,8 @@ module _ {st : Settings} {W : List ℕ} {h s i low k : ℕ} {c : Tree h} where
       to-two u (Asks st W h s low j) (u, (all-head (t .stocked-before) .few, (g .few, t .lowest)))
 
   pub absorbed : (b a : List (Tree h)) (W₁ : List ℕ) (r : Standing) → Poise st W h s i low k b c a → (length (rowsAt st W s) ≡ 1 → ⊥) → r .at ≡ i - 1
-      → Answers st W W₁ h s (r .low) (beforeAt (nodes st W) h s (r .at)) (childAt (nodes st W) h s (r .at)) (childAt (nodes st W) h s (r .at + 1)) (afterAt (nodes st W) h s (r .at + 1))
+      → Answers st W W₁ h s (r .low) (beforeAt (nodes st W) h s (r .at)) (childAt (nodes st W) h s (r .at)) (childAt (nodes st W) h s (r .at + 1))
+      (afterAt (nodes st W) h s (r .at + 1))
       → Ended st W W₁ h s Absorb r (kidsAt (nodes st W) h s) b c a
   absorbed [] [] W₁ r t ne e x = absurd (ne (omega (arith, focus-long (poise-focus t), t .at)))
   absorbed [] (n ∷ a) W₁ r t ne e x =

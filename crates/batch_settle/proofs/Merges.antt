@@ -37,10 +37,16 @@ use Rattle.batch_share.proofs.Turns.{own-lower, own-upper, apart-two, apart-low
 use Rattle.batch_share.proofs.Cuts.{both}
 
 -- a slot released: the lower of it and the lowest is the lowest now
-pub released-low : (st : Settings) (W W′ : List ℕ) (low y : ℕ) → Lowest (nodes st W) low → unusedOf (nodes st W′) ≡ release y (unusedOf (nodes st W)) → Lowest (nodes st W′) (min low y)
+pub released-low : (st : Settings) (W W′ : List ℕ) (low y : ℕ) → Lowest (nodes st W) low → unusedOf (nodes st W′) ≡ release y (unusedOf (nodes st W))
+    → Lowest (nodes st W′) (min low y)
 released-low st W W′ low y l e =
     low-from (nodes st W′) (min low y) (omega (arith, l .within, long))
-    (λ z g. ap (times z) e ∙ omega (arith, times-release z y (unusedOf (nodes st W)), hit-other z y (λ q. absurd (omega arith)), low-none (nodes st W) low l z (omega arith)))
+    (λ z g. ap (times z) e ∙ omega (
+      arith,
+      times-release z y (unusedOf (nodes st W)),
+      hit-other z y (λ q. absurd (omega arith)),
+      low-none (nodes st W) low l z (omega arith),
+    ))
     (λ g. rw e (found (decLt low y) (omega (arith, g, long))))
   where
     long : length (nodes st W′) ≡ length (nodes st W)
@@ -119,7 +125,8 @@ module _ {st : Settings} {W : List ℕ} {h s i : ℕ} {b : List (Tree h)} {p c :
       both-renews =
           renews-after st W₁ W₂ h s i x less (parent-in (t .family)) (λ e. apart-lower t (sym ex ∙ e)) v
           (omega (arith, beside-long t, ap length parent-rows, length-without (rowsAt st W₁ s) (i + 1) 1 (omega (arith, beside-long t, ap length parent-rows))))
-          (omega (arith, lower-in t, ex)) (rw (ap (rowsAt st W₁) ex ∙ rows-in (p .slot) (nodeFor h (both h p c)) at-both) (sums-fit h (both h p c) both-bounded))
+          (omega (arith, lower-in t, ex))
+          (rw (ap (rowsAt st W₁) ex ∙ rows-in (p .slot) (nodeFor h (both h p c)) at-both) (sums-fit h (both h p c) both-bounded))
 
       row-both : rowOver h x (rowsAt st W₁ x) ≡ f (both h p c)
       row-both =
@@ -133,7 +140,8 @@ module _ {st : Settings} {W : List ℕ} {h s i : ℕ} {b : List (Tree h)} {p c :
       rows-new =
           let here : i ≡ 0 + length (map f b) = omega (arith, t .at, length-map b f) in
           let next : i + 1 ≡ 1 + length (map f b) = omega (arith, t .at, length-map b f) in
-          ap (λ (l : List R.Row). set (without l (i + 1) 1) i (rowOver h x (rowsAt st W₁ x))) (parent-rows ∙ family-rows (t .family) ∙ map-turned f b (p ∷ c ∷ a))
+          ap (λ (l : List R.Row). set (without l (i + 1) 1) i (rowOver h x (rowsAt st W₁ x)))
+          (parent-rows ∙ family-rows (t .family) ∙ map-turned f b (p ∷ c ∷ a))
           ∙ ap (λ (n : ℕ). set (without (reverseAux (map f b) (f p ∷ f c ∷ map f a)) n 1) i (rowOver h x (rowsAt st W₁ x))) next
           ∙ ap (λ (l : List R.Row). set l i (rowOver h x (rowsAt st W₁ x))) (without-turned 1 1 (map f b) (f p ∷ f c ∷ map f a))
           ∙ ap (λ (n : ℕ). set (reverseAux (map f b) (f p ∷ map f a)) n (rowOver h x (rowsAt st W₁ x))) here
@@ -146,7 +154,8 @@ module _ {st : Settings} {W : List ℕ} {h s i : ℕ} {b : List (Tree h)} {p c :
           let ms : List S.Node = set ns (p .slot) (nodeFor h (both h p c)) in
           let same : nth (set ns (p .slot) (nodeFor h (both h p c))) (c .slot) ≡ nodeFor h c =
           getD-set-other ns (p .slot) (c .slot) (nodeFor h (both h p c)) unused (λ e. apart-two t (sym e)) ∙ own-upper t in
-          unused-released ms (c .slot) (omega (arith, upper-in t, length-nodes st W, length-set ns (p .slot) (nodeFor h (both h p c)))) (node-used ms h (c .slot) c same)
+          unused-released ms (c .slot) (omega (arith, upper-in t, length-nodes st W, length-set ns (p .slot) (nodeFor h (both h p c))))
+          (node-used ms h (c .slot) c same)
           ∙ ap (release (c .slot)) (unused-kept ns (p .slot) (nodeFor h (both h p c)) (ap (λ (n : S.Node). n .kind) (sym (own-lower t))))
 
       abbrev mergedPlace : Place (Tree h)
@@ -165,11 +174,13 @@ module _ {st : Settings} {W : List ℕ} {h s i : ℕ} {b : List (Tree h)} {p c :
           (omega (arith, parent-in (t .family), length-nodes st W, length-put ns (p .slot) (nodeFor h (both h p c)) (c .slot) unused))
           newRows rows-new
 
-      pub merged-left : (low : ℕ) → Lowest ns low → (r : ℕ) → r ≡ min low y → (W₃ : List ℕ) → Now st W₂ W₃ (renewed (nodes st W₂) h s i x) → Left st W W₃ h s r (kidsAt ns h s) mergedPlace
+      pub merged-left : (low : ℕ) → Lowest ns low → (r : ℕ) → r ≡ min low y → (W₃ : List ℕ) → Now st W₂ W₃ (renewed (nodes st W₂) h s i x)
+          → Left st W W₃ h s r (kidsAt ns h s) mergedPlace
       merged-left low l r er W₃ u =
           let q = renewed-after st W₁ W₂ h s i x less (parent-in (t .family)) (λ e. apart-lower t (sym ex ∙ e)) v W₃ u in
           let e : nodes st W₃ ≡ putRows mergedNodes s newRows = q .is ∙ ap (λ (ms : List S.Node). putRows ms s newRows) nodes-merged in
-          let m : Came st W W₃ h s (reverseAux b (p ∷ c ∷ a)) mergedPlace = record { held = u .held; header = q .header ∙ w .header; settled = rw e merged-settles } in
+          let m : Came st W W₃ h s (reverseAux b (p ∷ c ∷ a)) mergedPlace =
+          record { held = u .held; header = q .header ∙ w .header; settled = rw e merged-settles } in
           record {
             came = came-kids (t .family) W₃ mergedPlace m;
             lowest = rw er (released-low st W W₃ low y l (m .settled .unused ∙ ap (λ (z : ℕ). release z (unusedOf ns)) (sym ey)));

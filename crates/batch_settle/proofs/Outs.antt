@@ -44,7 +44,8 @@ module _ {st : Settings} {W : List ℕ} {h s i : ℕ} {b : List (Tree h)} {c : T
 
   parent-rows : rowsAt st W₁ s ≡ rowsAt st W s
   parent-rows =
-      ap (λ (ms : List S.Node). nth ms s .rows) nodes-out ∙ ap (λ (n : S.Node). n .rows) (getD-set-other ns (c .slot) s unused unused (λ e. focus-away t (sym e)))
+      ap (λ (ms : List S.Node). nth ms s .rows) nodes-out
+      ∙ ap (λ (n : S.Node). n .rows) (getD-set-other ns (c .slot) s unused unused (λ e. focus-away t (sym e)))
 
   pub child-out : Rows st W₁ s i 1
   child-out = record { held = w .held; slot = parent-in (t .family); within = omega (arith, focus-long t, ap length parent-rows) }
@@ -83,7 +84,8 @@ module _ {st : Settings} {W : List ℕ} {h s i : ℕ} {b : List (Tree h)} {c : T
         let lo : Lowest (nodes st W₂) (r .low) = rw el (released-low st W W₂ low y l (m .settled .unused ∙ ap (λ (z : ℕ). release z (unusedOf ns)) (sym ey))) in
         by b (t .at) m lo
       where
-        by : (d : List (Tree h)) → i ≡ length d → Came st W W₂ h s (kidsAt ns h s) (record { before = d; rest = a; unused = release (c .slot) (unusedOf ns) }) → Lowest (nodes st W₂) (r .low)
+        by : (d : List (Tree h)) → i ≡ length d
+            → Came st W W₂ h s (kidsAt ns h s) (record { before = d; rest = a; unused = release (c .slot) (unusedOf ns) }) → Lowest (nodes st W₂) (r .low)
             → Ended st W W₂ h s Remove r (kidsAt ns h s) d c a
         by [] e m lo = record { held = m .held; header = m .header; settled = m .settled; at = omega (arith, ea, e); lowest = lo }
         by (q ∷ d) e m lo =

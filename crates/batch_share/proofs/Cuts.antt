@@ -19,7 +19,7 @@ use Rattle.model.proofs.Settles.{back-same, on-same}
 use Rattle.tree.specs.Bridge.{rowFor, nodeFor}
 use Rattle.batch_share.specs.Steps.{Beside, handedRows, levelNodes}
 use Rattle.batch_share.proofs.Places.{node-len}
-use Rattle.batch_share.proofs.Turns.{Recut, own-lower, own-upper, apart-two}
+use Rattle.batch_share.proofs.Turns.{Recut, Moved, own-lower, own-upper, apart-two}
 
 -- THE CUTS of the model
 
@@ -32,7 +32,7 @@ recut-on st h c n lim = record { first = refl; second = refl; items = on-same st
 abbrev pub both : (h : ℕ) → Tree h → Tree h → Tree h
 both h p c = refill p (p .items ++ c .items)
 
-pub recut-even : (h : ℕ) (p c : Tree h) → Recut h p c (halved (both h p c) (c .slot) .lower) (halved (both h p c) (c .slot) .upper)
+recut-even : (h : ℕ) (p c : Tree h) → Recut h p c (halved (both h p c) (c .slot) .lower) (halved (both h p c) (c .slot) .upper)
 recut-even h p c = record { first = refl; second = refl; items = take-append-drop (half (len (both h p c))) (p .items ++ c .items) }
 
 -- ROWS OF TREES
@@ -47,7 +47,8 @@ module _ (ns : List S.Node) (h : ℕ) (p c : Tree h) (op : nth ns (p .slot) ≡ 
 
   back-cut : (k : ℕ) → backNodes ns (p .slot) (c .slot) k ≡ put (f (p .items ++ take k (c .items))) (f (drop k (c .items)))
   back-cut k =
-      ap (λ (n : S.Node). put2 ns (p .slot) (withRows n (n .rows ++ take k (nth ns (c .slot) .rows))) (c .slot) (withRows (nth ns (c .slot)) (drop k (nth ns (c .slot) .rows)))) op
+      ap (λ (n : S.Node).
+      put2 ns (p .slot) (withRows n (n .rows ++ take k (nth ns (c .slot) .rows))) (c .slot) (withRows (nth ns (c .slot)) (drop k (nth ns (c .slot) .rows)))) op
       ∙ ap (λ (n : S.Node). put2 ns (p .slot) (withRows (nodeFor h p) (f (p .items) ++ take k (n .rows))) (c .slot) (withRows n (drop k (n .rows)))) oc
       ∙ ap (λ (l : List Row). put l (drop k (f (c .items))))
       (ap (f (p .items) ++_) (sym (map-take (rowFor h) k (c .items))) ∙ sym (map-append (rowFor h) (p .items) (take k (c .items))))
@@ -65,7 +66,8 @@ module _ (ns : List S.Node) (h : ℕ) (p c : Tree h) (op : nth ns (p .slot) ≡ 
       (withRows n (take (length (n .rows) - k) (n .rows)))) op
       ∙ ap (g (f (p .items))) long
       ∙ ap (λ (n : S.Node). put2 ns (c .slot) (withRows n (drop j (f (p .items)) ++ n .rows)) (p .slot) (withRows (nodeFor h p) (take j (f (p .items))))) oc
-      ∙ set-comm ns (c .slot) (p .slot) (withRows (nodeFor h c) (drop j (f (p .items)) ++ f (c .items))) (withRows (nodeFor h p) (take j (f (p .items)))) (λ e. ne (sym e))
+      ∙ set-comm ns (c .slot) (p .slot) (withRows (nodeFor h c) (drop j (f (p .items)) ++ f (c .items))) (withRows (nodeFor h p) (take j (f (p .items))))
+      (λ e. ne (sym e))
       ∙ ap (λ (l : List Row). put l (drop j (f (p .items)) ++ f (c .items))) (sym (map-take (rowFor h) j (p .items)))
       ∙ ap (λ (l : List Row). put (f (take j (p .items))) l)
       (ap (_++ f (c .items)) (sym (map-drop (rowFor h) j (p .items))) ∙ sym (map-append (rowFor h) (drop j (p .items)) (c .items)))
@@ -94,8 +96,11 @@ module _ {st : Settings} {W : List ℕ} {h s i : ℕ} {b : List (Tree h)} {p c :
   abbrev ns : List S.Node
   ns = nodes st W
 
-  abbrev pub cut : Tree h → Tree h → List S.Node
-  cut p′ c′ = put2 ns (p .slot) (nodeFor h p′) (c .slot) (nodeFor h c′)
+  abbrev Moves : Tree h → Tree h → Type 0
+  Moves p′ c′ = Moved st W W₁ h p c p′ c′ x y
+
+  limits : InLimits st
+  limits = t .family .held .shape .limits
 
   long-lower : length (rowsAt st W x) ≡ len p
   long-lower = node-len ns h x p (ap (nth ns) ex ∙ own-lower t)
@@ -104,23 +109,29 @@ module _ {st : Settings} {W : List ℕ} {h s i : ℕ} {b : List (Tree h)} {p c :
   long-upper = node-len ns h y c (ap (nth ns) ey ∙ own-upper t)
 
   handed-back : handedRows st W y x ≡ handed st c p
-  handed-back = ap (λ (m : ℕ). min (st .order - m) (length (rowsAt st W y) - st .minimum)) long-lower ∙ ap (λ (m : ℕ). min (st .order - len p) (m - st .minimum)) long-upper
+  handed-back =
+      ap (λ (m : ℕ). min (st .order - m) (length (rowsAt st W y) - st .minimum)) long-lower
+      ∙ ap (λ (m : ℕ). min (st .order - len p) (m - st .minimum)) long-upper
 
   handed-on : handedRows st W x y ≡ handed st p c
-  handed-on = ap (λ (m : ℕ). min (st .order - m) (length (rowsAt st W x) - st .minimum)) long-upper ∙ ap (λ (m : ℕ). min (st .order - len c) (m - st .minimum)) long-lower
+  handed-on =
+      ap (λ (m : ℕ). min (st .order - m) (length (rowsAt st W x) - st .minimum)) long-upper
+      ∙ ap (λ (m : ℕ). min (st .order - len c) (m - st .minimum)) long-lower
 
-  pub gave-back : (k : ℕ) → k ≡ handedRows st W y x → Now st W W₁ (backNodes ns x y k) → Now st W W₁ (cut (shareBack st p c .lower) (shareBack st p c .upper))
+  pub gave-back : (k : ℕ) → k ≡ handedRows st W y x → Now st W W₁ (backNodes ns x y k) → Moves (shareBack st p c .lower) (shareBack st p c .upper)
   gave-back k ek w =
-      become st W W₁ _ _ w
-      ((λ j. backNodes ns (ex j) (ey j) ((ek ∙ handed-back) j)) ∙ back-cut ns h p c (own-lower t) (own-upper t) (handed st c p))
+      let e = (λ j. backNodes ns (ex j) (ey j) ((ek ∙ handed-back) j)) ∙ back-cut ns h p c (own-lower t) (own-upper t) (handed st c p) in
+      record { recut = recut-back st h p c limits; lower = ex; upper = ey; now = become st W W₁ _ _ w e }
 
-  pub gave-on : (k : ℕ) → k ≡ handedRows st W x y → Now st W W₁ (forwardNodes ns x y k) → Now st W W₁ (cut (shareOn st p c .lower) (shareOn st p c .upper))
+  pub gave-on : (k : ℕ) → k ≡ handedRows st W x y → Now st W W₁ (forwardNodes ns x y k) → Moves (shareOn st p c .lower) (shareOn st p c .upper)
   gave-on k ek w =
-      become st W W₁ _ _ w
-      ((λ j. forwardNodes ns (ex j) (ey j) ((ek ∙ handed-on) j)) ∙ on-cut ns h p c (own-lower t) (own-upper t) (handed st p c) (apart-two t))
+      let e = (λ j. forwardNodes ns (ex j) (ey j) ((ek ∙ handed-on) j)) ∙ on-cut ns h p c (own-lower t) (own-upper t) (handed st p c) (apart-two t) in
+      record { recut = recut-on st h p c limits; lower = ex; upper = ey; now = become st W W₁ _ _ w e }
 
-  pub evened : Now st W W₁ (levelNodes ns x y) → Now st W W₁ (cut (halved (both h p c) (c .slot) .lower) (halved (both h p c) (c .slot) .upper))
-  evened w = become st W W₁ _ _ w ((λ j. levelNodes ns (ex j) (ey j)) ∙ even-cut ns h p c (own-lower t) (own-upper t))
+  pub evened : Now st W W₁ (levelNodes ns x y) → Moves (halved (both h p c) (c .slot) .lower) (halved (both h p c) (c .slot) .upper)
+  evened w =
+      let e = (λ j. levelNodes ns (ex j) (ey j)) ∙ even-cut ns h p c (own-lower t) (own-upper t) in
+      record { recut = recut-even h p c; lower = ex; upper = ey; now = become st W W₁ _ _ w e }
 
 -- LEVELLED by a move of the right amount, either way
 
@@ -138,7 +149,8 @@ module _ (ns : List S.Node) (p c m n : ℕ) (em : m ≡ length (nth ns p .rows))
   level-back g =
       let k : ℕ = (m + n + 1) / 2 - m in
       let at : lower (l ++ r) ≡ length l + k = omega (arith, length-append l r) in
-      ap (λ (q : List Row). put2 ns p (withRows (nth ns p) q) c (withRows (nth ns c) (drop k r))) (sym (ap (λ (z : ℕ). take z (l ++ r)) at ∙ take-append-add l r k))
+      ap (λ (q : List Row). put2 ns p (withRows (nth ns p) q) c (withRows (nth ns c) (drop k r)))
+      (sym (ap (λ (z : ℕ). take z (l ++ r)) at ∙ take-append-add l r k))
       ∙ ap (λ (q : List Row). put2 ns p (withRows (nth ns p) (take (lower (l ++ r)) (l ++ r))) c (withRows (nth ns c) q))
       (sym (ap (λ (z : ℕ). drop z (l ++ r)) at ∙ drop-append-add l r k))
 

@@ -2,7 +2,7 @@
 use mathlib.Core.Path.{_≡_, sym, ap, _∙_, subst}
 use mathlib.Core.Logic.{_≢_}
 use mathlib.Core.List.{List, [], _∷_, _++_, map, reverseAux, append-nil}
-use Prim.Native.Nat.{ℕ, suc, _+_, _*_, _/_, _≤_, _<_}
+use Prim.Native.Nat.{ℕ, suc, _+_, _/_, _<_}
 use native.Mathlib.Omega.{arith}
 use native.Mathlib.Decide.{decLt}
 use lib.ListN.{length, take, drop, set, length-map, take-append-drop}
@@ -26,18 +26,28 @@ use Rattle.tree.proofs.Unused.{unused-taken, unused-kept, used-none, unused-onc
 use Rattle.batch_share.specs.Settle.{kidsAt, Settled}
 use Rattle.tree.specs.Sums.{Weighs}
 use Rattle.batch_share.specs.Weigh.{rowOver, Renews, renewed}
-use Rattle.batch_share.specs.Steps.{Bounded, Focus, Came, Left}
+use Rattle.batch_share.specs.Steps.{Bounded, Focus, Poise, Came, Left}
 use Rattle.batch_share.proofs.Weights.{row-over, sums-fit, bounded-left, bounded-right}
 use Rattle.batch_share.proofs.Zips.{set-turned, putIn-turned, map-turned}
 use Rattle.batch_share.proofs.Places.{parent-in, came-kids}
 use Rattle.batch_share.proofs.Parents.{renews-after, renewed-after}
 use Rattle.batch_share.proofs.Recast.{recast-settles}
 use Rattle.batch_share.proofs.Puts.{put-first, put-second, put-other, length-put, blank-set, below-from}
-use Rattle.batch_share.proofs.Focuses.{own-focus, focus-away, focus-used, parent-used, focus-in, focus-long, focus-bounded, focus-rows, focus-place, focus-next}
+use Rattle.batch_share.proofs.Focuses.{poise-focus, poise-new, own-focus, focus-away, focus-used, parent-used}
+use Rattle.batch_share.proofs.Focuses.{focus-in, focus-long, focus-bounded, focus-rows, focus-place, focus-next}
 
 -- y is what the code has for the child's slot
-module _ {st : Settings} {W : List ℕ} {h s i : ℕ} {b : List (Tree h)} {c : Tree h} {a : List (Tree h)} (t : Focus st W h s i b c a) (y x : ℕ) (ey : y ≡ c .slot)
-    (lo : Lowest (nodes st W) x) (xin : x < st .nodes) where
+module _ {st : Settings} {W : List ℕ} {h s i x : ℕ} {b : List (Tree h)} {c : Tree h} {a : List (Tree h)} (poise : Poise st W h s i x 1 b c a)
+    (y : ℕ) (ey : y ≡ c .slot) where
+  t : Focus st W h s i b c a
+  t = poise-focus poise
+
+  lo : Lowest (nodes st W) x
+  lo = poise .lowest
+
+  pub new-in : x < st .nodes
+  new-in = poise-new poise x lo (omega arith)
+
   abbrev ns : List S.Node
   ns = nodes st W
 
@@ -54,7 +64,7 @@ module _ {st : Settings} {W : List ℕ} {h s i : ℕ} {b : List (Tree h)} {c : T
   inside l = omega (arith, l, length-nodes st W)
 
   free-kind : nth ns x .kind ≡ 0
-  free-kind = lo .here (inside xin)
+  free-kind = lo .here (inside new-in)
 
   not-new : (z : ℕ) → nth ns z .kind ≢ 0 → z ≢ x
   not-new z u e = u (ap (λ (k : ℕ). nth ns k .kind) e ∙ free-kind)
@@ -64,7 +74,7 @@ module _ {st : Settings} {W : List ℕ} {h s i : ℕ} {b : List (Tree h)} {c : T
       rw ey (record {
         held = t .family .held;
         slot = focus-in t;
-        slot2 = xin;
+        slot2 = new-in;
         apart = not-new (c .slot) (focus-used t);
         free = t .family .empty x free-kind;
       })
@@ -78,11 +88,12 @@ module _ {st : Settings} {W : List ℕ} {h s i : ℕ} {b : List (Tree h)} {c : T
       let g : S.Node → ℕ → List S.Node = λ n m. put2 ns x (withRows n (drop m (n .rows))) (c .slot) (withRows n (take m (n .rows))) in
       let long : lower (map (rowFor h) (c .items)) ≡ half (len c) = ap (λ (m : ℕ). (m + 1) / 2) (length-map (c .items) (rowFor h)) in
       ap (λ (n : S.Node). g n (lower (n .rows))) (own-focus t) ∙ ap (g (nodeFor h c)) long
-      ∙ ap (λ (l : List R.Row). put2 ns x (withRows (nodeFor h c) l) (c .slot) (withRows (nodeFor h c) (take (half (len c)) (map (rowFor h) (c .items))))) (sym (map-drop (rowFor h) (half (len c)) (c .items)))
+      ∙ ap (λ (l : List R.Row). put2 ns x (withRows (nodeFor h c) l) (c .slot) (withRows (nodeFor h c) (take (half (len c)) (map (rowFor h) (c .items)))))
+      (sym (map-drop (rowFor h) (half (len c)) (c .items)))
       ∙ ap (λ (l : List R.Row). put2 ns x (nodeFor h upperHalf) (c .slot) (withRows (nodeFor h c) l)) (sym (map-take (rowFor h) (half (len c)) (c .items)))
 
   at-upper : nth halfNodes x ≡ nodeFor h upperHalf
-  at-upper = put-first ns x (nodeFor h upperHalf) (c .slot) (nodeFor h lowerHalf) (λ e. not-new (c .slot) (focus-used t) (sym e)) (inside xin)
+  at-upper = put-first ns x (nodeFor h upperHalf) (c .slot) (nodeFor h lowerHalf) (λ e. not-new (c .slot) (focus-used t) (sym e)) (inside new-in)
 
   at-lower : nth halfNodes (c .slot) ≡ nodeFor h lowerHalf
   at-lower = put-second ns x (nodeFor h upperHalf) (c .slot) (nodeFor h lowerHalf) (inside (focus-in t))
@@ -110,35 +121,43 @@ module _ {st : Settings} {W : List ℕ} {h s i : ℕ} {b : List (Tree h)} {c : T
     rows-in z n e = ap (λ (ms : List S.Node). nth ms z .rows) nodes-half ∙ ap (λ (m : S.Node). m .rows) e
 
     pub upper-weighs : Weighs st W₁ h x
-    upper-weighs = record { held = w .held; slot = xin; sums = rw (rows-in x (nodeFor h upperHalf) at-upper) (sums-fit h upperHalf upper-bounded) }
+    upper-weighs = record { held = w .held; slot = new-in; sums = rw (rows-in x (nodeFor h upperHalf) at-upper) (sums-fit h upperHalf upper-bounded) }
 
     parent-rows : rowsAt st W₁ s ≡ rowsAt st W s
     parent-rows = rows-in s (nth ns s) at-parent
 
-    pub upper-room : length (rowsAt st W s) + 1 ≤ 2 * st .order → Room st W₁ s (i + 1) 1
-    upper-room few =
+    pub upper-room : Room st W₁ s (i + 1) 1
+    upper-room =
         record {
           held = w .held;
           slot = parent-in (t .family);
           within = omega (arith, focus-long t, ap length parent-rows);
-          room = omega (arith, few, ap length parent-rows);
+          room = omega (arith, poise .few, ap length parent-rows);
         }
 
-    module _ (row : R.Row) (er : row ≡ rowOver h x (rowsAt st W₁ x)) (W₂ : List ℕ) (v : Now st W₁ W₂ (putRows (nodes st W₁) s (putIn (rowsAt st W₁ s) (i + 1) (row ∷ [])))) where
+    module _ (row : R.Row) (er : row ≡ rowOver h x (rowsAt st W₁ x)) (W₂ : List ℕ)
+        (v : Now st W₁ W₂ (putRows (nodes st W₁) s (putIn (rowsAt st W₁ s) (i + 1) (row ∷ [])))) where
       abbrev more : List R.Row
       more = putIn (rowsAt st W₁ s) (i + 1) (row ∷ [])
 
       pub lower-renews : Renews st W₂ h s i y
       lower-renews =
           renews-after st W₁ W₂ h s i y more (parent-in (t .family)) (λ e. focus-away t (sym ey ∙ e)) v
-          (omega (arith, focus-long t, ap length parent-rows, length-putIn (rowsAt st W₁ s) (i + 1) (row ∷ []) (omega (arith, focus-long t, ap length parent-rows))))
+          (omega (
+            arith,
+            focus-long t,
+            ap length parent-rows,
+            length-putIn (rowsAt st W₁ s) (i + 1) (row ∷ []) (omega (arith, focus-long t, ap length parent-rows)),
+          ))
           (omega (arith, focus-in t, ey)) (rw (ap (rowsAt st W₁) ey ∙ rows-in (c .slot) (nodeFor h lowerHalf) at-lower) (sums-fit h lowerHalf lower-bounded))
 
       row-upper : row ≡ f upperHalf
       row-upper = er ∙ ap (rowOver h x) (rows-in x (nodeFor h upperHalf) at-upper) ∙ row-over h upperHalf (upper-bounded .small)
 
       row-lower : rowOver h y (rowsAt st W₁ y) ≡ f lowerHalf
-      row-lower = ap (λ (z : ℕ). rowOver h z (rowsAt st W₁ z)) ey ∙ ap (rowOver h (c .slot)) (rows-in (c .slot) (nodeFor h lowerHalf) at-lower) ∙ row-over h lowerHalf (lower-bounded .small)
+      row-lower =
+          ap (λ (z : ℕ). rowOver h z (rowsAt st W₁ z)) ey ∙ ap (rowOver h (c .slot)) (rows-in (c .slot) (nodeFor h lowerHalf) at-lower)
+          ∙ row-over h lowerHalf (lower-bounded .small)
 
       abbrev newRows : List R.Row
       newRows = set more i (rowOver h y (rowsAt st W₁ y))
@@ -158,7 +177,7 @@ module _ {st : Settings} {W : List ℕ} {h s i : ℕ} {b : List (Tree h)} {c : T
       half-unused =
           unused-kept (set ns x (nodeFor h upperHalf)) (c .slot) (nodeFor h lowerHalf)
           (ap (λ (n : S.Node). n .kind) (sym (getD-set-other ns x (c .slot) (nodeFor h upperHalf) unused (not-new (c .slot) (focus-used t)) ∙ own-focus t)))
-          ∙ unused-taken ns x (nodeFor h upperHalf) lo (inside xin) (kind-used h) .1
+          ∙ unused-taken ns x (nodeFor h upperHalf) lo (inside new-in) (kind-used h) .1
 
       abbrev halfPlace : Tree h → Tree h → Place (Tree h)
       halfPlace p q = record { before = b; rest = p ∷ q ∷ a; unused = others (unusedOf ns) }
@@ -178,9 +197,9 @@ module _ {st : Settings} {W : List ℕ} {h s i : ℕ} {b : List (Tree h)} {c : T
 
       -- the model's slot for the upper half is x
       model-new : x ≡ lowest (unusedOf ns)
-      model-new = sym (unused-taken ns x (nodeFor h upperHalf) lo (inside xin) (kind-used h) .0)
+      model-new = sym (unused-taken ns x (nodeFor h upperHalf) lo (inside new-in) (kind-used h) .0)
 
-      module _ (some : 1 ≤ length (unusedOf ns)) (W₃ : List ℕ) (u : Now st W₂ W₃ (renewed (nodes st W₂) h s i y)) where
+      module _ (W₃ : List ℕ) (u : Now st W₂ W₃ (renewed (nodes st W₂) h s i y)) where
         half-came : Came st W W₃ h s (reverseAux b (c ∷ a)) (halfPlace lowerHalf upperHalf)
         half-came =
             let q = renewed-after st W₁ W₂ h s i y more (parent-in (t .family)) (λ e. focus-away t (sym ey ∙ e)) v W₃ u in
@@ -189,14 +208,14 @@ module _ {st : Settings} {W : List ℕ} {h s i : ℕ} {b : List (Tree h)} {c : T
 
         -- the slots from x down are in use
         none-low : (z : ℕ) → Dec (z < x) → z < x + 1 → times z (others (unusedOf ns)) ≡ 0
-        none-low z (yes l) g = omega (arith, times-taken z (unusedOf ns) some, used-none ns z (lo .before z l))
+        none-low z (yes l) g = omega (arith, times-taken z (unusedOf ns) (poise .room), used-none ns z (lo .before z l))
         none-low z (no l) g =
             let here : z ≡ lowest (unusedOf ns) = omega (arith, model-new) in
-            omega (arith, times-taken z (unusedOf ns) some, unused-once ns z, hit-same z (lowest (unusedOf ns)) here)
+            omega (arith, times-taken z (unusedOf ns) (poise .room), unused-once ns z, hit-same z (lowest (unusedOf ns)) here)
 
         pub half-below : Below (nodes st W₃) (x + 1)
         half-below =
-            below-from (nodes st W₃) (x + 1) (omega (arith, xin, length-nodes st W₃))
+            below-from (nodes st W₃) (x + 1) (omega (arith, new-in, length-nodes st W₃))
             (λ z g. ap (times z) (half-came .settled .unused) ∙ none-low z (decLt z x) g)
 
         pub half-left : (r : ℕ) → Lowest (nodes st W₃) r

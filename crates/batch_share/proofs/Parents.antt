@@ -22,7 +22,8 @@ unused-rows ns s l = unused-kept ns s (withRows (nth ns s) l) refl
 
 -- ROWS WRITTEN, THEN ONE OF THEM MADE NEW
 
-module _ (st : Settings) (W₀ W₁ : List ℕ) (h s i c : ℕ) (l : List Row) (parent : s < st .nodes) (away : c ≢ s) (w : Now st W₀ W₁ (putRows (nodes st W₀) s l)) where
+module _ (st : Settings) (W₀ W₁ : List ℕ) (h s i c : ℕ) (l : List Row) (parent : s < st .nodes) (away : c ≢ s)
+    (w : Now st W₀ W₁ (putRows (nodes st W₀) s l)) where
   inside : s < length (nodes st W₀)
   inside = omega (arith, parent, length-nodes st W₀)
 
@@ -31,7 +32,8 @@ module _ (st : Settings) (W₀ W₁ : List ℕ) (h s i c : ℕ) (l : List Row) (
       let mine : rowsAt st W₁ s ≡ l = own-rows st W₀ W₁ s l w parent in
       record { held = w .held; parent = parent; within = omega (arith, within, ap length mine); slot = slot; sums = rw (kept-rows st W₀ W₁ c s l w away) sums }
 
-  pub renewed-after : (W₂ : List ℕ) → Now st W₁ W₂ (renewed (nodes st W₁) h s i c) → Now st W₀ W₂ (putRows (nodes st W₀) s (set l i (rowOver h c (rowsAt st W₀ c))))
+  pub renewed-after : (W₂ : List ℕ) → Now st W₁ W₂ (renewed (nodes st W₁) h s i c)
+      → Now st W₀ W₂ (putRows (nodes st W₀) s (set l i (rowOver h c (rowsAt st W₀ c))))
   renewed-after W₂ v =
       let ns : List S.Node = nodes st W₀ in
       become st W₀ W₂ _ _ (then (λ (ns : List S.Node). renewed ns h s i c) st W₀ W₁ W₂ (putRows ns s l) w v)

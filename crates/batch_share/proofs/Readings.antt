@@ -61,7 +61,8 @@ module _ {st : Settings} {W : List ℕ} {h s i : ℕ} {b : List (Tree h)} {p c :
         to-readings lower-focus (λ u v w. F u v (childAt (nodes st W) h s (i + 1)) (afterAt (nodes st W) h s (i + 1)))
         (to-readings upper-focus (λ u v w. F b p v w) x)
 
-    pub from-two : F (beforeAt (nodes st W) h s i) (childAt (nodes st W) h s i) (childAt (nodes st W) h s (i + 1)) (afterAt (nodes st W) h s (i + 1)) → F b p c a
+    pub from-two : F (beforeAt (nodes st W) h s i) (childAt (nodes st W) h s i) (childAt (nodes st W) h s (i + 1)) (afterAt (nodes st W) h s (i + 1))
+        → F b p c a
     from-two x =
         from-readings upper-focus (λ u v w. F b p v w)
         (from-readings lower-focus (λ u v w. F u v (childAt (nodes st W) h s (i + 1)) (afterAt (nodes st W) h s (i + 1))) x)

@@ -31,7 +31,8 @@ module _ (ms : List S.Node) (h : ℕ) where
   family [] none k = none
   family (y ∷ ys) (one o os) k =
       let parts : All (Stands ms) (cellsOf h (y .items) ++ cellsOf h (joined ys)) = subst (All (Stands ms)) (cells-append h (y .items) (joined ys)) k in
-      one o (all-append (all-left (cellsOf h (y .items)) (cellsOf h (joined ys)) parts) (family ys os (all-right (cellsOf h (y .items)) (cellsOf h (joined ys)) parts)))
+      one o (all-append (all-left (cellsOf h (y .items)) (cellsOf h (joined ys)) parts)
+      (family ys os (all-right (cellsOf h (y .items)) (cellsOf h (joined ys)) parts)))
 
   head : (y : Tree h) (r : List Cell) → All (Stands ms) (cells (suc h) y ++ r) → (nth ms (y .slot) ≡ nodeFor h y) × All (Stands ms) (cellsOf h (y .items) ++ r)
   head y r (one o k) = (o, k)
@@ -104,7 +105,8 @@ module _ (h s : ℕ) (ns ms : List S.Node) (b olds news a : List (Tree h)) (us :
 
     below-new : All (Stands ls) (cellsOf h (joined (news ++ a)))
     below-new =
-        subst (λ (q : List (Item h)). All (Stands ls) (cellsOf h q)) (joined-append olds a ∙ ap (λ (q : List (Item h)). q ++ joined a) (sym items) ∙ sym (joined-append news a))
+        subst (λ (q : List (Item h)). All (Stands ls) (cellsOf h q))
+        (joined-append olds a ∙ ap (λ (q : List (Item h)). q ++ joined a) (sym items) ∙ sym (joined-append news a))
         (agree-items ns ls h (joined (olds ++ a))
         (λ x g. other x (omega (arith, g, counts x, apart x, below-counts x))
         ∙ kept x (omega (arith, g, counts x, below-counts x)) (omega (arith, g, counts x, apart x, below-counts x)))
@@ -131,15 +133,19 @@ module _ (h s : ℕ) (ns ms : List S.Node) (b olds news a : List (Tree h)) (us :
     pub recast-settles : Settled h s ns (putRows ms s l) (reverseAux b (olds ++ a)) (record { before = b; rest = news ++ a; unused = us })
     recast-settles =
         record {
-          holds = one top (turned-cells (Stands ls) (suc h) b (news ++ a) before-new (family ls h (news ++ a) (all-append (news-own news mine away) (owns ls h a after-new)) below-new));
+          holds =
+              one top (turned-cells (Stands ls) (suc h) b (news ++ a) before-new
+              (family ls h (news ++ a) (all-append (news-own news mine away) (owns ls h a after-new)) below-new));
           unused = unused-rows ms s l ∙ ef;
           frame = λ x u z. other x (omega (arith, z, counts x)) ∙ others x u (omega (arith, z, counts x));
           empty = blank-new;
         }
 
 -- TWO STEPS IN A ROW are a step
-pub then-settled : (h s : ℕ) (ns ms ls : List S.Node) (kids : List (Tree h)) (p q : Place (Tree h)) → Settled h s ns ms kids p → Settled h s ms ls (reverseAux (p .before) (p .rest)) q
-    → ((x : ℕ) → times x (slots (suc (suc h)) (inner h s (reverseAux (p .before) (p .rest)))) + times x (p .unused) ≡ times x (slots (suc (suc h)) (inner h s kids)) + times x (unusedOf ns))
+pub then-settled : (h s : ℕ) (ns ms ls : List S.Node) (kids : List (Tree h)) (p q : Place (Tree h)) → Settled h s ns ms kids p
+    → Settled h s ms ls (reverseAux (p .before) (p .rest)) q
+    → ((x : ℕ) → times x (slots (suc (suc h)) (inner h s (reverseAux (p .before) (p .rest)))) + times x (p .unused)
+    ≡ times x (slots (suc (suc h)) (inner h s kids)) + times x (unusedOf ns))
     → Settled h s ns ls kids q
 then-settled h s ns ms ls kids p q a b has =
     record {

@@ -48,9 +48,9 @@ module _ {st : Settings} {W : List ℕ} {h s i low k : ℕ} {b : List (Tree h)} 
 
 -- WHERE A PLACE IS LEFT, the model's is
 
-pub ended-by : (st : Settings) (W W₁ : List ℕ) (h s : ℕ) (v : ChangeResult) (r : Standing) (b : List (Tree h)) (c : Tree h) (a : List (Tree h)) (q : Place (Tree h))
-    → settle st v b c a (unusedOf (nodes st W)) ≡ q → Came st W W₁ h s (kidsAt (nodes st W) h s) q → r .at ≡ length (q .before) → Lowest (nodes st W₁) (r .low)
-    → Ended st W W₁ h s v r (kidsAt (nodes st W) h s) b c a
+pub ended-by : (st : Settings) (W W₁ : List ℕ) (h s : ℕ) (v : ChangeResult) (r : Standing) (b : List (Tree h)) (c : Tree h) (a : List (Tree h))
+    (q : Place (Tree h)) → settle st v b c a (unusedOf (nodes st W)) ≡ q → Came st W W₁ h s (kidsAt (nodes st W) h s) q
+    → r .at ≡ length (q .before) → Lowest (nodes st W₁) (r .low) → Ended st W W₁ h s v r (kidsAt (nodes st W) h s) b c a
 ended-by st W W₁ h s v r b c a q e m at l =
     record {
       held = m .held;
@@ -103,21 +103,28 @@ module _ (st : Settings) {X : Type 0} where
 
 module _ {st : Settings} {W : List ℕ} {h s i low k : ℕ} {b : List (Tree h)} {c : Tree h} {a : List (Tree h)} (t : Poise st W h s i low k b c a) where
   pub fits-rowed : len c ≤ st .order → Left st W W h s low (kidsAt (nodes st W) h s) (stay b (followed (splitOver st c (unusedOf (nodes st W))) a))
-  fits-rowed le = subst (λ (q : Row (Tree h)). Left st W W h s low (kidsAt (nodes st W) h s) (stay b q)) (sym (split-fits st c a (unusedOf (nodes st W)) le)) (stays-left t)
+  fits-rowed le =
+      subst (λ (q : Row (Tree h)). Left st W W h s low (kidsAt (nodes st W) h s) (stay b q)) (sym (split-fits st c a (unusedOf (nodes st W)) le)) (stays-left t)
 
   pub fits-next : len c ≤ st .order → Left st W W h s low (kidsAt (nodes st W) h s) (stay b (shareNext st c a (unusedOf (nodes st W))))
-  fits-next le = subst (λ (q : Row (Tree h)). Left st W W h s low (kidsAt (nodes st W) h s) (stay b q)) (sym (next-fits st c a (unusedOf (nodes st W)) le)) (stays-left t)
+  fits-next le =
+      subst (λ (q : Row (Tree h)). Left st W W h s low (kidsAt (nodes st W) h s) (stay b q)) (sym (next-fits st c a (unusedOf (nodes st W)) le)) (stays-left t)
 
   pub over-rowed : (W₁ : List ℕ) (r : ℕ) → st .order < len c
       → Left st W W₁ h s r (kidsAt (nodes st W) h s)
-      (record { before = b; rest = halved c (lowest (unusedOf (nodes st W))) .lower ∷ halved c (lowest (unusedOf (nodes st W))) .upper ∷ a; unused = others (unusedOf (nodes st W)) })
+      (record {
+        before = b;
+        rest = halved c (lowest (unusedOf (nodes st W))) .lower ∷ halved c (lowest (unusedOf (nodes st W))) .upper ∷ a;
+        unused = others (unusedOf (nodes st W));
+      })
       → Left st W W₁ h s r (kidsAt (nodes st W) h s) (stay b (followed (splitOver st c (unusedOf (nodes st W))) a))
   over-rowed W₁ r lt x =
       subst (λ (q : Row (Tree h)). Left st W W₁ h s r (kidsAt (nodes st W) h s) (stay b q)) (sym (split-over st c a (unusedOf (nodes st W)) lt)) x
 
 -- WITH THE NEXT: i is a child of others behind it
 
-module _ {st : Settings} {W : List ℕ} {h s i low k : ℕ} {b : List (Tree h)} {c n : Tree h} {a : List (Tree h)} (t : Poise st W h s i low k b c (n ∷ a)) (over : st .order < len c) where
+module _ {st : Settings} {W : List ℕ} {h s i low k : ℕ} {b : List (Tree h)} {c n : Tree h} {a : List (Tree h)} (t : Poise st W h s i low k b c (n ∷ a))
+    (over : st .order < len c) where
   pair-on : Beside st W h s i b c n a
   pair-on = on-beside (poise-focus t)
 
@@ -133,10 +140,12 @@ module _ {st : Settings} {W : List ℕ} {h s i low k : ℕ} {b : List (Tree h)} 
   abbrev onPlace : Place (Tree h)
   onPlace = record { before = b; rest = shareOn st c n .lower ∷ shareOn st c n .upper ∷ a; unused = unusedOf (nodes st W) }
 
-  on-came : (W₁ : List ℕ) → Parted st W W₁ h s i (shareOn st (childAt (nodes st W) h s i) (childAt (nodes st W) h s (i + 1))) → Came st W W₁ h s (reverseAux b (c ∷ n ∷ a)) onPlace
+  on-came : (W₁ : List ℕ) → Parted st W W₁ h s i (shareOn st (childAt (nodes st W) h s i) (childAt (nodes st W) h s (i + 1)))
+      → Came st W W₁ h s (reverseAux b (c ∷ n ∷ a)) onPlace
   on-came W₁ m =
       kids-came (t .family) W₁ onPlace
-      (from-two pair-on (λ u v w z. Came st W W₁ h s (kidsAt (nodes st W) h s) (record { before = u; rest = shareOn st v w .lower ∷ shareOn st v w .upper ∷ z; unused = unusedOf (nodes st W) })) m)
+      (from-two pair-on (λ u v w z. Came st W W₁ h s (kidsAt (nodes st W) h s)
+      (record { before = u; rest = shareOn st v w .lower ∷ shareOn st v w .upper ∷ z; unused = unusedOf (nodes st W) })) m)
 
   on-poise : (W₁ : List ℕ) → Came st W W₁ h s (reverseAux b (c ∷ n ∷ a)) onPlace → Poise st W₁ h s i low k b (shareOn st c n .lower) (shareOn st c n .upper ∷ a)
   on-poise W₁ m =
@@ -215,9 +224,11 @@ module _ {st : Settings} {W : List ℕ} {h s i low k : ℕ} {b : List (Tree h)} 
       → Came st W W₁ h s (reverseAux b (p ∷ c ∷ a)) backPlace
   back-came W₁ m =
       kids-came (t .family) W₁ backPlace
-      (from-two pair-back (λ u v w z. Came st W W₁ h s (kidsAt (nodes st W) h s) (record { before = u; rest = shareBack st v w .lower ∷ shareBack st v w .upper ∷ z; unused = unusedOf (nodes st W) })) m)
+      (from-two pair-back (λ u v w z. Came st W W₁ h s (kidsAt (nodes st W) h s)
+      (record { before = u; rest = shareBack st v w .lower ∷ shareBack st v w .upper ∷ z; unused = unusedOf (nodes st W) })) m)
 
-  back-poise : (W₁ : List ℕ) → Came st W W₁ h s (reverseAux b (p ∷ c ∷ a)) backPlace → Poise st W₁ h s i low k (shareBack st p c .lower ∷ b) (shareBack st p c .upper) a
+  back-poise : (W₁ : List ℕ) → Came st W W₁ h s (reverseAux b (p ∷ c ∷ a)) backPlace
+      → Poise st W₁ h s i low k (shareBack st p c .lower ∷ b) (shareBack st p c .upper) a
   back-poise W₁ m =
       let f : Family st W₁ h s (reverseAux b (shareBack st p c .lower ∷ shareBack st p c .upper ∷ a)) =
       recut-family pair-back (recut-back st h p c (t .family .held .shape .limits)) W₁ m in
@@ -289,6 +300,7 @@ module _ {st : Settings} {W : List ℕ} {h s i low k : ℕ} {c : Tree h} {a : Li
   out-ended (p ∷ b) W₁ W₂ r t room ea m x = back-ended t W₁ W₂ r room ea (back-came t W₁ m) x
 
   pub out-stayed : (b : List (Tree h)) (W₁ : List ℕ) (r : Standing) → Poise st W h s i low k b c a → roomIn st b ≡ false → r .at ≡ i
-      → Left st W W₁ h s (r .low) (kidsAt (nodes st W) h s) (stay b (shareNext st c a (unusedOf (nodes st W)))) → Ended st W W₁ h s Split r (kidsAt (nodes st W) h s) b c a
+      → Left st W W₁ h s (r .low) (kidsAt (nodes st W) h s) (stay b (shareNext st c a (unusedOf (nodes st W))))
+      → Ended st W W₁ h s Split r (kidsAt (nodes st W) h s) b c a
   out-stayed b W₁ r t room ea x =
       ended-by st W W₁ h s Split r b c a _ (out-stays st b c a (unusedOf (nodes st W)) room) (x .came) (ea ∙ t .at) (x .lowest)

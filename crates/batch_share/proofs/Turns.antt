@@ -47,7 +47,8 @@ module _ {st : Settings} {W : List ℕ} {h s i : ℕ} {b : List (Tree h)} {p c :
   own-upper = all-head (all-tail kin)
 
   counts : (x : ℕ) → times x (slots (suc (suc h)) (inner h s (reverseAux b (p ∷ c ∷ a))))
-      ≡ hit x s + (times x (slotsIn (suc h) b) + (own x (p ∷ c ∷ []) + (own x a + (times x (slotsIn h (joined (p ∷ c ∷ []))) + times x (slotsIn h (joined a))))))
+      ≡ hit x s
+      + (times x (slotsIn (suc h) b) + (own x (p ∷ c ∷ []) + (own x a + (times x (slotsIn h (joined (p ∷ c ∷ []))) + times x (slotsIn h (joined a))))))
   counts x = family-counts h s b (p ∷ c ∷ []) a x
 
   pub apart-two : p .slot ≢ c .slot
@@ -91,7 +92,8 @@ module _ {st : Settings} {W : List ℕ} {h s i : ℕ} {b : List (Tree h)} {p c :
     own-same : (x : ℕ) → own x (p′ ∷ c′ ∷ []) ≡ own x (p ∷ c ∷ [])
     own-same x = omega (arith, ap (hit x) (r .first), ap (hit x) (r .second))
 
-    slots-same : (x : ℕ) → times x (slots (suc (suc h)) (inner h s (reverseAux b (p′ ∷ c′ ∷ a)))) ≡ times x (slots (suc (suc h)) (inner h s (reverseAux b (p ∷ c ∷ a))))
+    slots-same : (x : ℕ)
+        → times x (slots (suc (suc h)) (inner h s (reverseAux b (p′ ∷ c′ ∷ a)))) ≡ times x (slots (suc (suc h)) (inner h s (reverseAux b (p ∷ c ∷ a))))
     slots-same x =
         omega (arith, counts x, family-counts h s b (p′ ∷ c′ ∷ []) a x, own-same x, ap (λ (l : List (Item h)). times x (slotsIn h l)) two-same)
 
@@ -119,7 +121,8 @@ module _ {st : Settings} {W : List ℕ} {h s i : ℕ} {b : List (Tree h)} {p c :
         }
 
     -- and a step after that is a step from the start
-    pub recut-then : (W₁ W₂ : List ℕ) (q : Place (Tree h)) → Came st W W₁ h s (reverseAux b (p ∷ c ∷ a)) recut → Came st W₁ W₂ h s (reverseAux b (p′ ∷ c′ ∷ a)) q
+    pub recut-then : (W₁ W₂ : List ℕ) (q : Place (Tree h)) → Came st W W₁ h s (reverseAux b (p ∷ c ∷ a)) recut
+        → Came st W₁ W₂ h s (reverseAux b (p′ ∷ c′ ∷ a)) q
         → Came st W W₂ h s (reverseAux b (p ∷ c ∷ a)) q
     recut-then W₁ W₂ q m n =
         record {
@@ -150,7 +153,7 @@ module _ {st : Settings} {W : List ℕ} {h s i : ℕ} {b : List (Tree h)} {p c :
       rows-in : (z : ℕ) (n : S.Node) → nth cutNodes z ≡ n → rowsAt st W₁ z ≡ n .rows
       rows-in z n e = ap (λ (ns : List S.Node). nth ns z .rows) (w .is) ∙ ap (λ (m : S.Node). m .rows) e
 
-      pub cut-renews : RenewsTwo st W₁ h s i x y
+      cut-renews : RenewsTwo st W₁ h s i x y
       cut-renews =
           rw (ex, ey) (record {
             held = w .held;
@@ -164,7 +167,8 @@ module _ {st : Settings} {W : List ℕ} {h s i : ℕ} {b : List (Tree h)} {p c :
           })
 
       abbrev cutRows : List Row
-      cutRows = set (set (nth cutNodes s .rows) i (rowOver h (p .slot) (nth cutNodes (p .slot) .rows))) (i + 1) (rowOver h (c .slot) (nth cutNodes (c .slot) .rows))
+      cutRows =
+          set (set (nth cutNodes s .rows) i (rowOver h (p .slot) (nth cutNodes (p .slot) .rows))) (i + 1) (rowOver h (c .slot) (nth cutNodes (c .slot) .rows))
 
       row-lower : rowOver h (p .slot) (nth cutNodes (p .slot) .rows) ≡ rowFor (suc h) p′
       row-lower =
@@ -202,15 +206,32 @@ module _ {st : Settings} {W : List ℕ} {h s i : ℕ} {b : List (Tree h)} {p c :
           (λ z u o.
           put-other (nodes st W) (p .slot) (nodeFor h p′) (c .slot) (nodeFor h c′) z (λ e. absurd (omega (arith, o, hit-same z (p .slot) e)))
           (λ e. absurd (omega (arith, o, hit-same z (c .slot) e))))
-          (unused-put (nodes st W) (p .slot) (nodeFor h p′) (c .slot) (nodeFor h c′) apart-two (kind-kept (p .slot) p p′ own-lower) (kind-kept (c .slot) c c′ own-upper))
+          (unused-put (nodes st W) (p .slot) (nodeFor h p′) (c .slot) (nodeFor h c′) apart-two (kind-kept (p .slot) p p′ own-lower)
+          (kind-kept (c .slot) c c′ own-upper))
           (blank-set (set (nodes st W) (p .slot) (nodeFor h p′)) (c .slot) (nodeFor h c′)
           (blank-set (nodes st W) (p .slot) (nodeFor h p′) (t .family .empty) (λ z. absurd (kind-used h z))) (λ z. absurd (kind-used h z)))
           (omega (arith, parent-in (t .family), length-nodes st W, length-put (nodes st W) (p .slot) (nodeFor h p′) (c .slot) (nodeFor h c′)))
           cutRows rows-new
 
-      pub cut-came : (W₂ : List ℕ) → Now st W₁ W₂ (renewedTwo (nodes st W₁) h s i x y) → Came st W W₂ h s (kidsAt (nodes st W) h s) recut
+      cut-came : (W₂ : List ℕ) → Now st W₁ W₂ (renewedTwo (nodes st W₁) h s i x y) → Came st W W₂ h s (kidsAt (nodes st W) h s) recut
       cut-came W₂ v =
           let e : nodes st W₂ ≡ putRows cutNodes s cutRows =
           v .is ∙ ap (λ (z : ℕ). renewedTwo (nodes st W₁) h s i z y) ex ∙ ap (λ (z : ℕ). renewedTwo (nodes st W₁) h s i (p .slot) z) ey
           ∙ ap (λ (ns : List S.Node). renewedTwo ns h s i (p .slot) (c .slot)) (w .is) in
           came-kids (t .family) W₂ recut (record { held = v .held; header = v .header ∙ w .header; settled = rw e cut-settles })
+
+-- A MOVE: the pool W₁ has the two cut otherwise; x and y are what the code has for their slots
+pub record Moved (st : Settings) (W W₁ : List ℕ) (h : ℕ) (p c p′ c′ : Tree h) (x y : ℕ) : Type 0 where
+  pub recut : Recut h p c p′ c′
+  pub lower : x ≡ p .slot
+  pub upper : y ≡ c .slot
+  pub now : Now st W W₁ (put2 (nodes st W) (p .slot) (nodeFor h p′) (c .slot) (nodeFor h c′))
+
+module _ {st : Settings} {W W₁ : List ℕ} {h s i x y : ℕ} {b : List (Tree h)} {p c p′ c′ : Tree h} {a : List (Tree h)} (t : Beside st W h s i b p c a)
+    (m : Moved st W W₁ h p c p′ c′ x y) where
+  pub moved-renews : RenewsTwo st W₁ h s i x y
+  moved-renews = cut-renews t (m .recut) W₁ (m .now) x y (m .lower) (m .upper)
+
+  pub moved-came : (W₂ : List ℕ) → Now st W₁ W₂ (renewedTwo (nodes st W₁) h s i x y)
+      → Came st W W₂ h s (kidsAt (nodes st W) h s) (record { before = b; rest = p′ ∷ c′ ∷ a; unused = unusedOf (nodes st W) })
+  moved-came = cut-came t (m .recut) W₁ (m .now) x y (m .lower) (m .upper)

@@ -2,7 +2,7 @@
 use mathlib.Core.Path.{_≡_, refl, ap, _∙_}
 use mathlib.Core.List.{List, [], _∷_, _++_, map}
 use mathlib.Core.Logic.{_≢_}
-use Prim.Native.Nat.{ℕ, zero, suc, _-_, _<_}
+use Prim.Native.Nat.{ℕ, suc, _-_, _<_}
 use native.Mathlib.Omega.{arith}
 use lib.ListN.{length, getD, length-append}
 use Rattle.slots_raw.specs.declared.Row.{Row}
@@ -36,12 +36,18 @@ sums-fit h n b = T.sums-fit h n (b .small) (b .fit)
 pub bounded-left : (h : ℕ) (xs ys : List (Item h)) → Bounded h (xs ++ ys) → Bounded h xs
 bounded-left h xs ys b =
     let fit : All Fits (flat h xs ++ flat h ys) = rw (flat-append h xs ys) at (b .fit) in
-    record { small = omega (arith, b .small, ap length (flat-append h xs ys), length-append (flat h xs) (flat h ys)); fit = all-left (flat h xs) (flat h ys) fit }
+    record {
+      small = omega (arith, b .small, ap length (flat-append h xs ys), length-append (flat h xs) (flat h ys));
+      fit = all-left (flat h xs) (flat h ys) fit;
+    }
 
 pub bounded-right : (h : ℕ) (xs ys : List (Item h)) → Bounded h (xs ++ ys) → Bounded h ys
 bounded-right h xs ys b =
     let fit : All Fits (flat h xs ++ flat h ys) = rw (flat-append h xs ys) at (b .fit) in
-    record { small = omega (arith, b .small, ap length (flat-append h xs ys), length-append (flat h xs) (flat h ys)); fit = all-right (flat h xs) (flat h ys) fit }
+    record {
+      small = omega (arith, b .small, ap length (flat-append h xs ys), length-append (flat h xs) (flat h ys));
+      fit = all-right (flat h xs) (flat h ys) fit;
+    }
 
 -- THE LAST KEY is that of the last row, if there is one
 

@@ -28,11 +28,13 @@ module _ {A : Type 0} where
   glued (x ∷ b) q r = glued b (x ∷ q) r
 
   -- put in, and taken out
-  pub putIn-turned : (n : ℕ) (b r new : List A) → take (n + length b) (reverseAux b r) ++ new ++ drop (n + length b) (reverseAux b r) ≡ reverseAux b (take n r ++ new ++ drop n r)
+  pub putIn-turned : (n : ℕ) (b r new : List A)
+      → take (n + length b) (reverseAux b r) ++ new ++ drop (n + length b) (reverseAux b r) ≡ reverseAux b (take n r ++ new ++ drop n r)
   putIn-turned n b r new =
       rw (take-turned n b r, drop-turned n b r) (ap (λ (l : List A). l ++ drop n r) (glued b (take n r) new) ∙ glued b (take n r ++ new) (drop n r))
 
-  pub without-turned : (n k : ℕ) (b r : List A) → take (n + length b) (reverseAux b r) ++ drop (n + length b + k) (reverseAux b r) ≡ reverseAux b (take n r ++ drop (n + k) r)
+  pub without-turned : (n k : ℕ) (b r : List A)
+      → take (n + length b) (reverseAux b r) ++ drop (n + length b + k) (reverseAux b r) ≡ reverseAux b (take n r ++ drop (n + k) r)
   without-turned n k b r =
       let e : n + length b + k ≡ (n + k) + length b = omega arith in
       rw (e, take-turned n b r, drop-turned (n + k) b r) (glued b (take n r) (drop (n + k) r))

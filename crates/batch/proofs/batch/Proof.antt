@@ -22,23 +22,32 @@ node-change-requires c κs =
 
 settle-root-requires : tie.Need-settle-root-requires Inv-loop μ-loop
 settle-root-requires c κs =
-    let m = c .before .before .before .before .before .before .loop .inv .1 in
-    returned m (next m (c .before .before .before .before .before .loop-test .taken)) (c .before .before .before .node-change .ensures)
+    let changed = c .before .before .before in
+    let tested = changed .before .before in
+    let m = tested .before .loop .inv .1 in
+    returned m (next m (tested .loop-test .taken)) (changed .node-change .ensures)
 
 loop-less : tie.Need-loop-less Inv-loop μ-loop
 loop-less c =
-    let m = c .before .before .before .before .before .before .before .before .before .before .loop .inv .1 in
-    omega (arith, c .before .before .before .before .before .before .before .before .before .loop-test .taken, further m (next m (c .before .before .before .before .before .before .before .before .before .loop-test .taken)) (c .before .before .before .before .before .before .before .node-change .ensures))
+    let changed = c .before .before .before .before .before .before .before in
+    let tested = changed .before .before in
+    let m = tested .before .loop .inv .1 in
+    omega (arith, tested .loop-test .taken, further m (next m (tested .loop-test .taken)) (changed .node-change .ensures))
 
 loop-again : tie.Need-loop-again Inv-loop μ-loop
 loop-again c =
-    let m = c .before .before .before .before .before .before .before .before .before .before .loop .inv .1 in
-    let r = c .before .before .before .before .before .before .before .node-change in
-    let s = c .before .before .before .settle-root in
-    (s .kept .0 ∙ r .kept .0 ∙ c .before .before .before .before .before .before .before .before .before .before .loop .inv .0, again m (next m (c .before .before .before .before .before .before .before .before .before .loop-test .taken)) (r .ensures) (s .ensures))
+    let settled = c .before .before .before in
+    let changed = settled .before .before .before .before in
+    let tested = changed .before .before in
+    let inv = tested .before .loop .inv in
+    let r = changed .node-change in
+    let s = settled .settle-root in
+    (s .kept .0 ∙ r .kept .0 ∙ inv .0, again (inv .1) (next (inv .1) (tested .loop-test .taken)) (r .ensures) (s .ensures))
 
 returns : tie.Need-returns Inv-loop μ-loop
-returns c = finish (c .before .before .before .before .before .loop .inv .1) (omega (arith, c .before .before .before .before .loop-test .left)) (c .before .before .collapse .ensures)
+returns c =
+    let tested = c .before .before .before .before in
+    finish (tested .before .loop .inv .1) (omega (arith, tested .loop-test .left)) (c .before .before .collapse .ensures)
 
 pub batch-spec : {M : Type 1} → statement M
 batch-spec =

@@ -1,9 +1,19 @@
--- `settle_root` meets its contract, result by result (`proofs/Settled`). Assumes nothing.
+-- `settle_root` meets its contract: of each result the root is left as the model leaves it (`proofs/Settled`). Assumes nothing.
 use mathlib.Core.Path.{refl}
 use borrow.Author.Needs.{needs}
 use Rattle.batch.proofs.Settled.{to-halve, split-settled, gone-settled, stays-settled}
 use Rattle.batch.proofs.settle_root.Statement.{statement}
 use Rattle.batch.proofs.settle_root.Tie as tie
+
+returns : tie.Need-returns
+returns c =
+    let told = c .before .before .before .before in
+    split-settled (told .before .before .before .pre) (told .enum-told .given .1) (c .before .before .split-root .ensures)
+
+returns-2 : tie.Need-returns-2
+returns-2 c =
+    let told = c .before .before .before .before in
+    gone-settled (told .before .before .before .pre) (told .enum-told2 .given .1) (c .before .before .set-kind .ensures)
 
 pub settle-root-spec : {M : Type 1} → statement M
 settle-root-spec =
@@ -13,11 +23,11 @@ settle-root-spec =
     (λ c κs. to-halve (c .before .before .before .before .pre) (c .before .enum-told .given .1))
     (λ c. search needs)
     (λ c. search needs)
-    (λ c. split-settled (c .before .before .before .before .before .before .before .pre) (c .before .before .before .before .enum-told .given .1) (c .before .before .split-root .ensures))
+    returns
     (λ c. search needs)
     (λ c κs. search needs)
     (λ c. search needs)
-    (λ c. gone-settled (c .before .before .before .before .before .before .before .pre) (c .before .before .before .before .enum-told2 .given .1) (c .before .before .set-kind .ensures))
+    returns-2
     (λ c. search needs)
     (λ c. stays-settled (c .before .before .before .pre) (c .enum-told3 .given .1) refl)
     (λ c. search needs)

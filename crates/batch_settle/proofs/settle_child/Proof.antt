@@ -13,28 +13,60 @@ renew-requires : tie.Need-renew-requires
 renew-requires c κs = start-renews (c .before .before .before .before .pre) _ (c .before .child-at .ensures .is)
 
 take-out-requires : tie.Need-take-out-requires
-take-out-requires c κs = arm-asks (c .before .before .before .before .before .before .before .before .before .before .pre) _ (c .before .before .before .before .before .before .before .child-at .ensures .is) _ (c .before .before .before .before .before .renew .ensures) Remove (c .before .enum-told2 .given .1)
+take-out-requires c κs =
+    let renewed = c .before .before .before .before .before in
+    let child = renewed .before .before in
+    arm-asks (child .before .before .before .pre) _ (child .child-at .ensures .is) _ (renewed .renew .ensures) Remove (c .before .enum-told2 .given .1)
 
 absorb-requires : tie.Need-absorb-requires
-absorb-requires c κs = arm-asks (c .before .before .before .before .before .before .before .before .before .before .pre) _ (c .before .before .before .before .before .before .before .child-at .ensures .is) _ (c .before .before .before .before .before .renew .ensures) Absorb (c .before .enum-told3 .given .1)
+absorb-requires c κs =
+    let renewed = c .before .before .before .before .before in
+    let child = renewed .before .before in
+    arm-asks (child .before .before .before .pre) _ (child .child-at .ensures .is) _ (renewed .renew .ensures) Absorb (c .before .enum-told3 .given .1)
 
 share-out-requires : tie.Need-share-out-requires
-share-out-requires c κs = arm-asks (c .before .before .before .before .before .before .before .before .before .before .pre) _ (c .before .before .before .before .before .before .before .child-at .ensures .is) _ (c .before .before .before .before .before .renew .ensures) Split (c .before .enum-told5 .given .1)
+share-out-requires c κs =
+    let renewed = c .before .before .before .before .before in
+    let child = renewed .before .before in
+    arm-asks (child .before .before .before .pre) _ (child .child-at .ensures .is) _ (renewed .renew .ensures) Split (c .before .enum-told5 .given .1)
 
 returns : tie.Need-returns
-returns c = arm-stays (c .before .before .before .before .before .before .before .before .before .pre) _ (c .before .before .before .before .before .before .child-at .ensures .is) _ (c .before .before .before .before .renew .ensures) Unchanged _ (c .enum-told .given .1) refl refl refl
+returns c =
+    let renewed = c .before .before .before .before in
+    let child = renewed .before .before in
+    arm-stays (child .before .before .before .pre) _ (child .child-at .ensures .is) _ (renewed .renew .ensures) Unchanged _
+    (c .enum-told .given .1) refl refl refl
 
 returns-2 : tie.Need-returns-2
-returns-2 c = arm-ends (c .before .before .before .before .before .before .before .before .before .before .before .before .before .pre) _ (c .before .before .before .before .before .before .before .before .before .before .child-at .ensures .is) _ (c .before .before .before .before .before .before .before .before .renew .ensures) Remove _ _ (c .before .before .before .before .enum-told2 .given .1) (c .before .before .take-out .ensures)
+returns-2 c =
+    let told = c .before .before .before .before in
+    let renewed = told .before .before .before .before in
+    let child = renewed .before .before in
+    arm-ends (child .before .before .before .pre) _ (child .child-at .ensures .is) _ (renewed .renew .ensures) Remove _ _ (told .enum-told2 .given .1)
+    (c .before .before .take-out .ensures)
 
 returns-3 : tie.Need-returns-3
-returns-3 c = arm-ends (c .before .before .before .before .before .before .before .before .before .before .before .before .before .pre) _ (c .before .before .before .before .before .before .before .before .before .before .child-at .ensures .is) _ (c .before .before .before .before .before .before .before .before .renew .ensures) Absorb _ _ (c .before .before .before .before .enum-told3 .given .1) (c .before .before .absorb .ensures)
+returns-3 c =
+    let told = c .before .before .before .before in
+    let renewed = told .before .before .before .before in
+    let child = renewed .before .before in
+    arm-ends (child .before .before .before .pre) _ (child .child-at .ensures .is) _ (renewed .renew .ensures) Absorb _ _ (told .enum-told3 .given .1)
+    (c .before .before .absorb .ensures)
 
 returns-4 : tie.Need-returns-4
-returns-4 c = arm-stays (c .before .before .before .before .before .before .before .before .before .pre) _ (c .before .before .before .before .before .before .child-at .ensures .is) _ (c .before .before .before .before .renew .ensures) Changed _ (c .enum-told4 .given .1) refl refl refl
+returns-4 c =
+    let renewed = c .before .before .before .before in
+    let child = renewed .before .before in
+    arm-stays (child .before .before .before .pre) _ (child .child-at .ensures .is) _ (renewed .renew .ensures) Changed _
+    (c .enum-told4 .given .1) refl refl refl
 
 returns-5 : tie.Need-returns-5
-returns-5 c = arm-ends (c .before .before .before .before .before .before .before .before .before .before .before .before .before .pre) _ (c .before .before .before .before .before .before .before .before .before .before .child-at .ensures .is) _ (c .before .before .before .before .before .before .before .before .renew .ensures) Split _ _ (c .before .before .before .before .enum-told5 .given .1) (c .before .before .share-out .ensures)
+returns-5 c =
+    let told = c .before .before .before .before in
+    let renewed = told .before .before .before .before in
+    let child = renewed .before .before in
+    arm-ends (child .before .before .before .pre) _ (child .child-at .ensures .is) _ (renewed .renew .ensures) Split _ _ (told .enum-told5 .given .1)
+    (c .before .before .share-out .ensures)
 
 pub settle-child-spec : {M : Type 1} → statement M
 settle-child-spec =

@@ -2,7 +2,7 @@
 use mathlib.Core.Path.{_≡_, ap, _∙_}
 use mathlib.Core.Logic.{_≢_}
 use mathlib.Core.List.{List}
-use Prim.Native.Nat.{_<_}
+use Prim.Native.Nat.{ℕ, _<_}
 use native.Mathlib.Omega.{arith}
 use lib.ListN.{length}
 use borrow.Author.Needs.{needs}
@@ -16,56 +16,69 @@ use Rattle.batch_root.proofs.Sets.{moved-all}
 use Rattle.batch_root.proofs.grow.move_root.Statement.{statement}
 use Rattle.batch_root.proofs.grow.move_root.Tie as tie
 
+-- the new node is in the pool, unused, and not the root
+module _ (s : tie.Start) where
+  abbrev new : ℕ
+  new = s .args .low
+
+  abbrev ns : List Node
+  ns = nodes (s .args .st) (words (s .args .pool .now))
+
+  inside : new < s .args .st .nodes
+  inside = pool-lowest (s .args .st) (words (s .args .pool .now)) new (s .pre .lowest) (s .pre .some)
+
+  there : new < length ns
+  there = omega (arith, inside, length-nodes (s .args .st) (words (s .args .pool .now)))
+
+  free : nth ns new .kind ≡ 0
+  free = s .pre .lowest .here there
+
+  apart : 0 ≢ new
+  apart e = s .pre .used (ap (λ (i : ℕ). nth ns i .kind) e ∙ free)
+
 set-kind-requires : tie.Need-set-kind-requires
-set-kind-requires c κs =
-    let start = c .before .before .before .before .before .before in
-    record { held = start .pre .held; slot = pool-lowest (start .args .st) (words (start .args .pool .now)) (start .args .low) (start .pre .lowest) (start .pre .some) }
+set-kind-requires c κs = let start = c .before .before .before .before .before .before in record { held = start .pre .held; slot = inside start }
 
 share-back-requires : tie.Need-share-back-requires
 share-back-requires c κs =
-    let start = c .before .before .before .before .before .before .before .before .before .before in
+    let marked = c .before .before .before in
+    let counted = marked .before .before in
+    let start = counted .before .before .before .before .before in
     let a = start .args in
-    let pre = start .pre in
-    let new = a .low in
-    let n = c .before .before .before .before .before .count in
-    let w = c .before .before .before .set-kind in
+    let n = counted .count .ensures in
+    let w = marked .set-kind in
     let W₀ = words (a .pool .now) in
     let W₁ = words (w .last .0) in
-    let inside : new < a .st .nodes = pool-lowest (a .st) W₀ new (pre .lowest) (pre .some) in
-    let free : nth (nodes (a .st) W₀) new .kind ≡ 0 = pre .lowest .here (omega (arith, length-nodes (a .st) W₀)) in
-    let apart : 0 ≢ new = λ e. pre .used (ap (λ s. nth (nodes (a .st) W₀) s .kind) e ∙ free) in
-    let mine : length (rowsAt (a .st) W₁ 0) ≡ length (rowsAt (a .st) W₀ 0) = ap length (kept-kind (a .st) W₀ W₁ 0 new _ (w .ensures) apart) in
-    let none : length (rowsAt (a .st) W₁ new) ≡ 0 =
-    ap length (kept-same (a .st) W₀ W₁ 0 new _ (w .ensures) inside ∙ ap (λ (m : Node). m .rows) (pre .empty new free)) in
+    let mine : length (rowsAt (a .st) W₁ 0) ≡ length (rowsAt (a .st) W₀ 0) =
+    ap length (kept-kind (a .st) W₀ W₁ 0 (a .low) _ (w .ensures) (apart start)) in
+    let none : length (rowsAt (a .st) W₁ (a .low)) ≡ 0 =
+    ap length (kept-same (a .st) W₀ W₁ 0 (a .low) _ (w .ensures) (inside start) ∙ ap (λ (m : Node). m .rows) (start .pre .empty (a .low) (free start))) in
     record {
       held = w .ensures .held;
-      slot = omega (arith, pre .held .shape .limits .many);
-      slot2 = inside;
-      apart = apart;
-      has = omega (arith, n .ensures .is);
-      room = omega (arith, n .ensures .fits);
+      slot = omega (arith, start .pre .held .shape .limits .many);
+      slot2 = inside start;
+      apart = apart start;
+      has = omega (arith, n .is);
+      room = omega (arith, n .fits);
     }
 
 returns : tie.Need-returns
 returns c =
-    let start = c .before .before .before .before .before .before .before .before .before .before .before .before .before in
+    let shared = c .before .before in
+    let marked = shared .before .before .before .before in
+    let counted = marked .before .before in
+    let read = counted .before .before in
+    let start = read .before .before .before in
     let a = start .args in
-    let pre = start .pre in
-    let new = a .low in
-    let k = c .before .before .before .before .before .before .before .before .before .before .kind in
-    let n = c .before .before .before .before .before .before .before .before .count in
+    let k = read .kind in
+    let n = counted .count in
     let W₀ = words (a .pool .now) in
-    let W₁ = words (c .before .before .before .before .before .before .set-kind .last .0) in
-    let W₂ = words (c .before .before .share-back .last .0) in
-    let ns = nodes (a .st) W₀ in
-    let inside : new < a .st .nodes = pool-lowest (a .st) W₀ new (pre .lowest) (pre .some) in
-    let inside-nodes : new < length (nodes (a .st) W₀) = omega (arith, length-nodes (a .st) W₀) in
-    let free : nth (nodes (a .st) W₀) new .kind ≡ 0 = pre .lowest .here inside-nodes in
-    let apart : 0 ≢ new = λ e. pre .used (ap (λ s. nth (nodes (a .st) W₀) s .kind) e ∙ free) in
-    let back : List Node → List Node = λ ms. backNodes ms new 0 (n .result) in
-    become (a .st) W₀ W₂ (back (putKind ns new (k .result))) (moved ns new)
-    (then back (a .st) W₀ W₁ W₂ (putKind ns new (k .result)) (c .before .before .before .before .before .before .set-kind .ensures) (c .before .before .share-back .ensures))
-    (moved-all ns new (k .result) (n .result) apart inside-nodes (pre .empty new free) (k .ensures) (n .ensures .is))
+    let W₁ = words (marked .set-kind .last .0) in
+    let W₂ = words (shared .share-back .last .0) in
+    let back : List Node → List Node = λ ms. backNodes ms (a .low) 0 (n .result) in
+    become (a .st) W₀ W₂ (back (putKind (ns start) (a .low) (k .result))) (moved (ns start) (a .low))
+    (then back (a .st) W₀ W₁ W₂ (putKind (ns start) (a .low) (k .result)) (marked .set-kind .ensures) (shared .share-back .ensures))
+    (moved-all (ns start) (a .low) (k .result) (n .result) (apart start) (there start) (start .pre .empty (a .low) (free start)) (k .ensures) (n .ensures .is))
 
 pub move-root-spec : {M : Type 1} → statement M
 move-root-spec =

@@ -7,24 +7,43 @@ use Rattle.batch_root.proofs.grow.split_root.Tie as tie
 
 lowest-unused-requires : tie.Need-lowest-unused-requires
 lowest-unused-requires c κs =
-    let pre = c .before .before .before .before .before .before .pre in
-    let mv = c .before .before .before .move-root .ensures in
+    let moved = c .before .before .before in
+    let pre = moved .before .before .before .pre in
+    let mv = moved .move-root .ensures in
     (mv .held, (omega (arith, a-nodes pre), below-lower pre mv))
+
+split-requires : tie.Need-split-requires
+split-requires c κs =
+    let moved = c .before .before .before .before .before in
+    to-split (moved .before .before .before .pre) (moved .move-root .ensures) (c .before .lowest-unused .ensures)
+
+crown-requires : tie.Need-crown-requires
+crown-requires c κs =
+    let cut = c .before .before .before in
+    let new = cut .before .before in
+    let moved = new .before .before .before .before in
+    to-crown (moved .before .before .before .pre) (moved .move-root .ensures) (new .lowest-unused .ensures) (cut .split .ensures)
 
 lowest-unused-requires-2 : tie.Need-lowest-unused-requires-2
 lowest-unused-requires-2 c κs =
-    let pre = c .before .before .before .before .before .before .before .before .before .before .before .before .before .before .before .before .pre in
-    let mv = c .before .before .before .before .before .before .before .before .before .before .before .before .before .move-root .ensures in
-    let lo = c .before .before .before .before .before .before .before .before .before .lowest-unused .ensures in
-    let cr = c .before .before .before .crown .ensures in
-    (cr .held, (omega (arith, b-nodes pre mv lo), below-upper pre mv lo (c .before .before .before .before .before .before .before .split .ensures) cr))
+    let crowned = c .before .before .before in
+    let cut = crowned .before .before .before .before in
+    let new = cut .before .before in
+    let moved = new .before .before .before .before in
+    let pre = moved .before .before .before .pre in
+    let mv = moved .move-root .ensures in
+    let lo = new .lowest-unused .ensures in
+    let cr = crowned .crown .ensures in
+    (cr .held, (omega (arith, b-nodes pre mv lo), below-upper pre mv lo (cut .split .ensures) cr))
 
 returns : tie.Need-returns
 returns c =
-    let pre = c .before .before .before .before .before .before .before .before .before .before .before .before .before .before .before .before .before .pre in
-    let mv = c .before .before .before .before .before .before .before .before .before .before .before .before .before .before .move-root .ensures in
-    let lo = c .before .before .before .before .before .before .before .before .before .before .lowest-unused .ensures in
-    split-done pre mv lo (c .before .before .before .before .before .before .before .before .split .ensures) (c .before .before .before .before .crown .ensures) (c .lowest-unused2 .ensures)
+    let crowned = c .before .before .before .before in
+    let cut = crowned .before .before .before .before in
+    let new = cut .before .before in
+    let moved = new .before .before .before .before in
+    split-done (moved .before .before .before .pre) (moved .move-root .ensures) (new .lowest-unused .ensures) (cut .split .ensures) (crowned .crown .ensures)
+    (c .lowest-unused2 .ensures)
 
 pub split-root-spec : {M : Type 1} → statement M
 split-root-spec =
@@ -32,8 +51,8 @@ split-root-spec =
     (tie.spec
     (λ c κs. to-move (c .before .before .pre))
     lowest-unused-requires
-    (λ c κs. to-split (c .before .before .before .before .before .before .before .before .pre) (c .before .before .before .before .before .move-root .ensures) (c .before .lowest-unused .ensures))
-    (λ c κs. to-crown (c .before .before .before .before .before .before .before .before .before .before .before .before .pre) (c .before .before .before .before .before .before .before .before .before .move-root .ensures) (c .before .before .before .before .before .lowest-unused .ensures) (c .before .before .before .split .ensures))
+    split-requires
+    crown-requires
     lowest-unused-requires-2
     (λ c. search needs)
     returns)

@@ -29,11 +29,14 @@ lift-child-requires c κs =
 
 loop-again : tie.Need-loop-again Inv-loop μ-loop
 loop-again c =
-    let i = c .before .before .before .before .before .before .before .before .loop in
-    let n = c .before .before .before .before .before .count in
-    let w = c .before .before .lift-child in
-    let e : i .h ≡ suc (i .h - 1) = omega (arith, c .before .before .before .before .before .before .before .loop-test .taken) in
-    (w .kept .0 ∙ i .inv .0, sink-on (i .inv .1) e (sym (n .ensures .is) ∙ eqb-true (n .result) 1 (c .before .before .before .before .if1 .taken)) (w .ensures))
+    let lifted = c .before .before in
+    let alone = lifted .before .before in
+    let tested = alone .before .before .before in
+    let i = tested .before .loop in
+    let n = alone .before .count in
+    let w = lifted .lift-child in
+    let e : i .h ≡ suc (i .h - 1) = omega (arith, tested .loop-test .taken) in
+    (w .kept .0 ∙ i .inv .0, sink-on (i .inv .1) e (sym (n .ensures .is) ∙ eqb-true (n .result) 1 (alone .if1 .taken)) (w .ensures))
 
 returns : tie.Need-returns Inv-loop μ-loop
 returns c =

@@ -4,6 +4,26 @@ use Rattle.batch_root.proofs.Sinks.{to-join, child-lifted}
 use Rattle.batch_root.proofs.shrink.lift_child.Statement.{statement}
 use Rattle.batch_root.proofs.shrink.lift_child.Tie as tie
 
+join-requires : tie.Need-join-requires
+join-requires c κs =
+    let marked = c .before .before .before in
+    let gone = marked .before .before .before .before in
+    let kind = gone .before .before in
+    let child = kind .before in
+    let row = child .before in
+    to-join (row .before .before .before .pre) (row .row-at .ensures) (child .child-of .ensures) (kind .kind-for .ensures) (gone .remove-row .ensures)
+    (marked .set-kind .ensures)
+
+returns : tie.Need-returns
+returns c =
+    let marked = c .before .before .before .before .before .before in
+    let gone = marked .before .before .before .before in
+    let kind = gone .before .before in
+    let child = kind .before in
+    let row = child .before in
+    child-lifted (row .before .before .before .pre) (row .row-at .ensures) (child .child-of .ensures) (kind .kind-for .ensures) (gone .remove-row .ensures)
+    (marked .set-kind .ensures) (c .before .before .join .ensures)
+
 pub lift-child-spec : {M : Type 1} → statement M
 lift-child-spec =
     tie.close
@@ -13,6 +33,6 @@ lift-child-spec =
     (λ c κs. search needs)
     (λ c κs. search needs)
     (λ c κs. search needs)
-    (λ c κs. to-join (c .before .before .before .before .before .before .before .before .before .before .before .before .before .before .pre) (c .before .before .before .before .before .before .before .before .before .before .before .row-at .ensures) (c .before .before .before .before .before .before .before .before .before .before .child-of .ensures) (c .before .before .before .before .before .before .before .before .before .kind-for .ensures) (c .before .before .before .before .before .before .before .remove-row .ensures) (c .before .before .before .set-kind .ensures))
+    join-requires
     (λ c. search needs)
-    (λ c. child-lifted (c .before .before .before .before .before .before .before .before .before .before .before .before .before .before .before .before .before .pre) (c .before .before .before .before .before .before .before .before .before .before .before .before .before .before .row-at .ensures) (c .before .before .before .before .before .before .before .before .before .before .before .before .before .child-of .ensures) (c .before .before .before .before .before .before .before .before .before .before .before .before .kind-for .ensures) (c .before .before .before .before .before .before .before .before .before .before .remove-row .ensures) (c .before .before .before .before .before .before .set-kind .ensures) (c .before .before .join .ensures)))
+    returns)

@@ -13,10 +13,18 @@ returns : tie.Need-returns
 returns c = alone-ended _ _ _ (c .before .before .before .before .pre .0) (sym (c .before .count .ensures .is) ∙ c .if1 .taken) refl refl
 
 join-children-requires : tie.Need-join-children-requires
-join-children-requires c κs = absorb-asks _ _ _ (c .before .before .before .before .before .before .pre .0) (c .before .before .before .before .before .before .pre .1) (λ e. c .before .before .if1 .left (c .before .before .before .count .ensures .is ∙ e)) (c .before .one-back .ensures)
+join-children-requires c κs =
+    let more = c .before .before in
+    let start = more .before .before .before .before in
+    absorb-asks _ _ _ (start .pre .0) (start .pre .1) (λ e. more .if1 .left (more .before .count .ensures .is ∙ e)) (c .before .one-back .ensures)
 
 returns-2 : tie.Need-returns-2
-returns-2 c = absorbed _ _ _ _ (c .before .before .before .before .before .before .before .before .before .pre .0) (λ e. c .before .before .before .before .before .if1 .left (c .before .before .before .before .before .before .count .ensures .is ∙ e)) (c .before .before .before .before .one-back .ensures) (c .before .before .join-children .ensures)
+returns-2 c =
+    let back = c .before .before .before .before in
+    let more = back .before in
+    let start = more .before .before .before .before in
+    absorbed _ _ _ _ (start .pre .0) (λ e. more .if1 .left (more .before .count .ensures .is ∙ e)) (back .one-back .ensures)
+    (c .before .before .join-children .ensures)
 
 pub absorb-spec : {M : Type 1} → statement M
 absorb-spec =

@@ -1,9 +1,8 @@
 -- `even_out` meets its contract: levelled, the two are the model's halves, and their rows in the parent are made new (`Turns`). Assumes nothing.
 use mathlib.Core.Path.{sym, _∙_}
 use native.Mathlib.Omega.{arith}
-use Rattle.words.specs.Words.{words}
-use Rattle.batch_share.proofs.Turns.{apart-two, beside-few, sits-lower, sits-upper, cut-renews, cut-came}
-use Rattle.batch_share.proofs.Cuts.{recut-even, evened}
+use Rattle.batch_share.proofs.Turns.{apart-two, beside-few, sits-lower, sits-upper, moved-renews, moved-came}
+use Rattle.batch_share.proofs.Cuts.{evened}
 use borrow.Author.Needs.{needs}
 use Rattle.batch_settle.proofs.join.even_out.Statement.{statement}
 use Rattle.batch_settle.proofs.join.even_out.Tie as tie
@@ -19,30 +18,34 @@ child-at-requires-2 c κs = sits-upper (c .before .before .before .before .pre .
 
 level-requires : tie.Need-level-requires
 level-requires c κs =
-    let start = c .before .before .before .before .before .before in
-    let lower = c .before .before .before .child-at .ensures in
-    let upper = c .before .child-at2 .ensures in
+    let lower = c .before .before .before in
+    let upper = c .before in
+    let start = lower .before .before .before in
+    let t = start .pre .0 in
     record {
-      held = start .pre .0 .family .held;
-      slot = lower .slot;
-      slot2 = upper .slot;
-      apart = λ e. apart-two (start .pre .0) (sym (lower .is) ∙ e ∙ upper .is);
-      few = omega (arith, lower .count, upper .count, start .pre .1 .0, start .pre .1 .1);
+      held = t .family .held;
+      slot = lower .child-at .ensures .slot;
+      slot2 = upper .child-at2 .ensures .slot;
+      apart = λ e. apart-two t (sym (lower .child-at .ensures .is) ∙ e ∙ upper .child-at2 .ensures .is);
+      few = omega (arith, lower .child-at .ensures .count, upper .child-at2 .ensures .count, start .pre .1 .0, start .pre .1 .1);
     }
 
 renew-two-requires : tie.Need-renew-two-requires
 renew-two-requires c κs =
-    let t = c .before .before .before .before .before .before .before .before .before .before .pre .0 in
-    let lower = c .before .before .before .before .before .before .before .child-at .ensures .is in
-    let upper = c .before .before .before .before .before .child-at2 .ensures .is in
-    cut-renews t (recut-even (c .before .before .before .before .before .before .before .before .before .before .args .below) _ _) (words (c .before .before .before .level .last .0)) (evened t _ _ _ lower upper (c .before .before .before .level .ensures)) _ _ lower upper
+    let levelled = c .before .before .before in
+    let upper = levelled .before .before in
+    let lower = upper .before .before in
+    let t = lower .before .before .before .pre .0 in
+    moved-renews t (evened t _ _ _ (lower .child-at .ensures .is) (upper .child-at2 .ensures .is) (levelled .level .ensures))
 
 returns : tie.Need-returns
 returns c =
-    let t = c .before .before .before .before .before .before .before .before .before .before .before .before .before .pre .0 in
-    let lower = c .before .before .before .before .before .before .before .before .before .before .child-at .ensures .is in
-    let upper = c .before .before .before .before .before .before .before .before .child-at2 .ensures .is in
-    cut-came t (recut-even (c .before .before .before .before .before .before .before .before .before .before .before .before .before .args .below) _ _) (words (c .before .before .before .before .before .before .level .last .0)) (evened t _ _ _ lower upper (c .before .before .before .before .before .before .level .ensures)) _ _ lower upper _ (c .before .before .renew-two .ensures)
+    let levelled = c .before .before .before .before .before .before in
+    let upper = levelled .before .before in
+    let lower = upper .before .before in
+    let t = lower .before .before .before .pre .0 in
+    moved-came t (evened t _ _ _ (lower .child-at .ensures .is) (upper .child-at2 .ensures .is) (levelled .level .ensures)) _
+    (c .before .before .renew-two .ensures)
 
 pub even-out-spec : {M : Type 1} → statement M
 even-out-spec =

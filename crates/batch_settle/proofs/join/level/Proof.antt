@@ -9,17 +9,27 @@ use Rattle.batch_settle.proofs.join.level.Tie as tie
 
 returns : tie.Need-returns
 returns c =
-    let a = c .before .before .before .before .before .before .before .before .before .before .args in
+    let moved = c .before .before in
+    let fewer = moved .before .before in
+    let second = fewer .before in
+    let first = second .before .before in
+    let start = first .before .before .before in
+    let a = start .args in
     let W = words (a .pool .now) in
-    become (a .st) W (words (c .before .before .share-back .last .0)) _ _ (c .before .before .share-back .ensures)
-    (level-back (nodes (a .st) W) (a .p) (a .c) (c .before .before .before .before .before .before .before .count .result) (c .before .before .before .before .before .count2 .result) (c .before .before .before .before .before .before .before .count .ensures .is) (c .before .before .before .before .before .count2 .ensures .is) (c .before .before .before .before .before .before .before .before .before .before .pre .apart) (c .before .before .before .before .if1 .taken))
+    become (a .st) W (words (moved .share-back .last .0)) _ _ (moved .share-back .ensures)
+    (level-back (nodes (a .st) W) (a .p) (a .c) _ _ (first .count .ensures .is) (second .count2 .ensures .is) (start .pre .apart) (fewer .if1 .taken))
 
 returns-2 : tie.Need-returns-2
 returns-2 c =
-    let a = c .before .before .before .before .before .before .before .before .before .before .args in
+    let moved = c .before .before in
+    let more = moved .before .before in
+    let second = more .before in
+    let first = second .before .before in
+    let start = first .before .before .before in
+    let a = start .args in
     let W = words (a .pool .now) in
-    become (a .st) W (words (c .before .before .share-forward .last .0)) _ _ (c .before .before .share-forward .ensures)
-    (level-on (nodes (a .st) W) (a .p) (a .c) (c .before .before .before .before .before .before .before .count .result) (c .before .before .before .before .before .count2 .result) (c .before .before .before .before .before .before .before .count .ensures .is) (c .before .before .before .before .before .count2 .ensures .is) (c .before .before .before .before .before .before .before .before .before .before .pre .apart) (c .before .before .before .before .if1 .left))
+    become (a .st) W (words (moved .share-forward .last .0)) _ _ (moved .share-forward .ensures)
+    (level-on (nodes (a .st) W) (a .p) (a .c) _ _ (first .count .ensures .is) (second .count2 .ensures .is) (start .pre .apart) (more .if1 .left))
 
 pub level-spec : {M : Type 1} → statement M
 level-spec =

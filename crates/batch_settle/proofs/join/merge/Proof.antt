@@ -1,4 +1,4 @@
--- `merge` meets its contract: the steps are those of `Merges`. Assumes nothing.
+-- `merge` meets its contract: each step does to the pool what the model's join does to the two (`Merges`). Assumes nothing.
 use native.Mathlib.Omega.{arith}
 use Rattle.batch_share.proofs.Turns.{beside-few, sits-lower, sits-upper}
 use Rattle.batch_settle.proofs.Merges.{can-join, upper-out, both-renews, merged-left}
@@ -17,34 +17,41 @@ child-at-requires-2 c κs = sits-upper (c .before .before .before .before .pre .
 
 join-requires : tie.Need-join-requires
 join-requires c κs =
-    let t = c .before .before .before .before .before .before .pre .0 in
-    let lower = c .before .before .before .child-at .ensures .is in
-    let upper = c .before .child-at2 .ensures .is in
-    can-join t _ _ lower upper (omega (arith, c .before .before .before .before .before .before .pre .1 .0))
+    let lower = c .before .before .before in
+    let start = lower .before .before .before in
+    can-join (start .pre .0) _ _ (lower .child-at .ensures .is) (c .before .child-at2 .ensures .is) (omega (arith, start .pre .1 .0))
 
 add-remove-row : tie.Need-add-remove-row
-add-remove-row c = omega (arith, beside-few (c .before .before .before .before .before .before .before .before .before .before .pre .0))
+add-remove-row c =
+    let joined = c .before .before .before in
+    omega (arith, beside-few (joined .before .before .before .before .before .before .before .pre .0))
 
 remove-row-requires : tie.Need-remove-row-requires
 remove-row-requires c κs =
-    let t = c .before .before .before .before .before .before .before .before .before .before .pre .0 in
-    let lower = c .before .before .before .before .before .before .before .child-at .ensures .is in
-    let upper = c .before .before .before .before .before .child-at2 .ensures .is in
-    upper-out t _ _ lower upper _ (c .before .before .before .join .ensures)
+    let joined = c .before .before .before in
+    let upper = joined .before .before in
+    let lower = upper .before .before in
+    upper-out (lower .before .before .before .pre .0) _ _ (lower .child-at .ensures .is) (upper .child-at2 .ensures .is) _ (joined .join .ensures)
 
 renew-requires : tie.Need-renew-requires
 renew-requires c κs =
-    let t = c .before .before .before .before .before .before .before .before .before .before .before .before .before .before .pre .0 in
-    let lower = c .before .before .before .before .before .before .before .before .before .before .before .child-at .ensures .is in
-    let upper = c .before .before .before .before .before .before .before .before .before .child-at2 .ensures .is in
-    both-renews t _ _ lower upper _ (c .before .before .before .before .before .before .before .join .ensures) _ (c .before .before .before .remove-row .ensures)
+    let gone = c .before .before .before in
+    let joined = gone .before .before .before .before in
+    let upper = joined .before .before in
+    let lower = upper .before .before in
+    both-renews (lower .before .before .before .pre .0) _ _ (lower .child-at .ensures .is) (upper .child-at2 .ensures .is) _ (joined .join .ensures) _
+    (gone .remove-row .ensures)
 
 returns : tie.Need-returns
 returns c =
-    let t = c .before .before .before .before .before .before .before .before .before .before .before .before .before .before .before .before .before .before .pre .0 in
-    let lower = c .before .before .before .before .before .before .before .before .before .before .before .before .before .before .before .child-at .ensures .is in
-    let upper = c .before .before .before .before .before .before .before .before .before .before .before .before .before .child-at2 .ensures .is in
-    merged-left t _ _ lower upper _ (c .before .before .before .before .before .before .before .before .before .before .before .join .ensures) _ (c .before .before .before .before .before .before .before .remove-row .ensures) _ (c .before .before .before .before .before .before .before .before .before .before .before .before .before .before .before .before .before .before .pre .1 .1) _ (c .lesser .ensures) _ (c .before .before .before .renew .ensures)
+    let renewed = c .before .before .before in
+    let gone = renewed .before .before .before .before in
+    let joined = gone .before .before .before .before in
+    let upper = joined .before .before in
+    let lower = upper .before .before in
+    let start = lower .before .before .before in
+    merged-left (start .pre .0) _ _ (lower .child-at .ensures .is) (upper .child-at2 .ensures .is) _ (joined .join .ensures) _ (gone .remove-row .ensures) _
+    (start .pre .1 .1) _ (c .lesser .ensures) _ (renewed .renew .ensures)
 
 pub merge-spec : {M : Type 1} → statement M
 merge-spec =

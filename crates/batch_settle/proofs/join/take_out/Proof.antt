@@ -1,4 +1,4 @@
--- `take_out` meets its contract: the steps are those of `Outs`. Assumes nothing.
+-- `take_out` meets its contract: the child's slot is released and its row taken out, and both are what the model leaves (`Outs`). Assumes nothing.
 use Rattle.batch_share.proofs.Focuses.{poise-focus, focus-sits}
 use Rattle.batch_settle.proofs.Outs.{child-out, taken-out}
 use borrow.Author.Needs.{needs}
@@ -9,11 +9,20 @@ child-at-requires : tie.Need-child-at-requires
 child-at-requires c κs = focus-sits (poise-focus (c .before .before .pre .0))
 
 remove-row-requires : tie.Need-remove-row-requires
-remove-row-requires c κs = child-out (poise-focus (c .before .before .before .before .before .before .before .before .pre .0)) (c .before .before .before .before .before .before .before .before .pre .1) _ (c .before .before .before .before .before .child-at .ensures .is) _ (c .before .before .before .release .ensures)
+remove-row-requires c κs =
+    let freed = c .before .before .before in
+    let child = freed .before .before in
+    let start = child .before .before .before in
+    child-out (poise-focus (start .pre .0)) (start .pre .1) _ (child .child-at .ensures .is) _ (freed .release .ensures)
 
 returns : tie.Need-returns
 returns c =
-    taken-out (poise-focus (c .before .before .before .before .before .before .before .before .before .before .before .before .before .pre .0)) (c .before .before .before .before .before .before .before .before .before .before .before .before .before .pre .1) _ (c .before .before .before .before .before .before .before .before .before .before .child-at .ensures .is) _ (c .before .before .before .before .before .before .before .before .release .ensures) _ (c .before .before .before .before .remove-row .ensures) _ (c .before .before .before .before .before .before .before .before .before .before .before .before .before .pre .0 .lowest) _ (c .before .one-back .ensures) (c .lesser .ensures)
+    let gone = c .before .before .before .before in
+    let freed = gone .before .before .before .before in
+    let child = freed .before .before in
+    let start = child .before .before .before in
+    taken-out (poise-focus (start .pre .0)) (start .pre .1) _ (child .child-at .ensures .is) _ (freed .release .ensures) _ (gone .remove-row .ensures) _
+    (start .pre .0 .lowest) _ (c .before .one-back .ensures) (c .lesser .ensures)
 
 pub take-out-spec : {M : Type 1} → statement M
 take-out-spec =

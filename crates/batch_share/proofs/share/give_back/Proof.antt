@@ -1,9 +1,8 @@
 -- `give_back` meets its contract: the rows moved are the model's, and the two rows in the parent are made new (`Turns`). Assumes nothing.
 use mathlib.Core.Path.{sym, _∙_}
 use native.Mathlib.Omega.{arith}
-use Rattle.words.specs.Words.{words}
-use Rattle.batch_share.proofs.Turns.{apart-two, beside-few, sits-lower, sits-upper, cut-renews, cut-came}
-use Rattle.batch_share.proofs.Cuts.{recut-back, gave-back}
+use Rattle.batch_share.proofs.Turns.{apart-two, beside-few, sits-lower, sits-upper, moved-renews, moved-came}
+use Rattle.batch_share.proofs.Cuts.{gave-back}
 use borrow.Author.Needs.{needs}
 use Rattle.batch_share.proofs.share.give_back.Statement.{statement}
 use Rattle.batch_share.proofs.share.give_back.Tie as tie
@@ -19,33 +18,46 @@ child-at-requires-2 c κs = sits-upper (c .before .before .before .before .pre .
 
 share-back-requires : tie.Need-share-back-requires
 share-back-requires c κs =
-    let start = c .before .before .before .before .before .before .before .before in
-    let lower = c .before .before .before .before .before .child-at .ensures in
-    let upper = c .before .before .before .child-at2 .ensures in
+    let upper = c .before .before .before in
+    let lower = upper .before .before in
+    let start = lower .before .before .before in
+    let t = start .pre .0 in
     record {
-      held = start .pre .0 .family .held;
-      slot = upper .slot;
-      slot2 = lower .slot;
-      apart = λ e. apart-two (start .pre .0) (sym (lower .is) ∙ sym e ∙ upper .is);
+      held = t .family .held;
+      slot = upper .child-at2 .ensures .slot;
+      slot2 = lower .child-at .ensures .slot;
+      apart = λ e. apart-two t (sym (lower .child-at .ensures .is) ∙ sym e ∙ upper .child-at2 .ensures .is);
       has = omega (arith, c .before .handed .ensures);
-      room = omega (arith, c .before .handed .ensures, lower .count, upper .count, start .pre .1 .0, start .pre .1 .1);
+      room = omega (
+        arith,
+        c .before .handed .ensures,
+        lower .child-at .ensures .count,
+        upper .child-at2 .ensures .count,
+        start .pre .1 .0,
+        start .pre .1 .1,
+      );
     }
 
 renew-two-requires : tie.Need-renew-two-requires
 renew-two-requires c κs =
-    let t = c .before .before .before .before .before .before .before .before .before .before .before .before .pre .0 in
-    let lower = c .before .before .before .before .before .before .before .before .before .child-at .ensures .is in
-    let upper = c .before .before .before .before .before .before .before .child-at2 .ensures .is in
-    cut-renews t (recut-back (c .before .before .before .before .before .before .before .before .before .before .before .before .args .st) (c .before .before .before .before .before .before .before .before .before .before .before .before .args .below) _ _ (t .family .held .shape .limits)) (words (c .before .before .before .share-back .last .0))
-    (gave-back t _ _ _ lower upper _ (c .before .before .before .before .before .handed .ensures) (c .before .before .before .share-back .ensures)) _ _ lower upper
+    let moved = c .before .before .before in
+    let handed = moved .before .before in
+    let upper = handed .before .before in
+    let lower = upper .before .before in
+    let t = lower .before .before .before .pre .0 in
+    moved-renews t
+    (gave-back t _ _ _ (lower .child-at .ensures .is) (upper .child-at2 .ensures .is) _ (handed .handed .ensures) (moved .share-back .ensures))
 
 returns : tie.Need-returns
 returns c =
-    let t = c .before .before .before .before .before .before .before .before .before .before .before .before .before .before .before .pre .0 in
-    let lower = c .before .before .before .before .before .before .before .before .before .before .before .before .child-at .ensures .is in
-    let upper = c .before .before .before .before .before .before .before .before .before .before .child-at2 .ensures .is in
-    cut-came t (recut-back (c .before .before .before .before .before .before .before .before .before .before .before .before .before .before .before .args .st) (c .before .before .before .before .before .before .before .before .before .before .before .before .before .before .before .args .below) _ _ (t .family .held .shape .limits)) (words (c .before .before .before .before .before .before .share-back .last .0))
-    (gave-back t _ _ _ lower upper _ (c .before .before .before .before .before .before .before .before .handed .ensures) (c .before .before .before .before .before .before .share-back .ensures)) _ _ lower upper _ (c .before .before .renew-two .ensures)
+    let moved = c .before .before .before .before .before .before in
+    let handed = moved .before .before in
+    let upper = handed .before .before in
+    let lower = upper .before .before in
+    let t = lower .before .before .before .pre .0 in
+    moved-came t
+    (gave-back t _ _ _ (lower .child-at .ensures .is) (upper .child-at2 .ensures .is) _ (handed .handed .ensures) (moved .share-back .ensures)) _
+    (c .before .before .renew-two .ensures)
 
 pub give-back-spec : {M : Type 1} → statement M
 give-back-spec =

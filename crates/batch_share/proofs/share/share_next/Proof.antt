@@ -15,22 +15,43 @@ add-if1 : tie.Need-add-if1
 add-if1 c = omega (arith, focus-few (poise-focus (c .before .before .before .pre)))
 
 returns : tie.Need-returns
-returns c = next-none _ _ _ (c .before .before .before .before .before .before .before .before .pre) (c .before .before .before .before .if1 .taken ∙ c .before .before .before .before .before .count .ensures .is) (c .before .before .split-over .ensures)
+returns c =
+    let last = c .before .before .before .before in
+    next-none _ _ _ (last .before .before .before .before .pre) (last .if1 .taken ∙ last .before .count .ensures .is) (c .before .before .split-over .ensures)
 
 child-len-requires : tie.Need-child-len-requires
 child-len-requires c κs = focus-sits (poise-focus (c .before .before .before .before .before .pre))
 
 returns-2 : tie.Need-returns-2
-returns-2 c = fits-next (c .before .before .before .before .before .before .before .before .pre) (omega (arith, c .if2 .taken, c .before .before .child-len .ensures))
+returns-2 c =
+    let measured = c .before .before in
+    fits-next (measured .before .before .before .before .before .before .pre) (omega (arith, c .if2 .taken, measured .child-len .ensures))
 
 give-on-requires : tie.Need-give-on-requires
-give-on-requires c κs = next-asks _ (c .before .before .before .before .before .before .before .before .before .pre) (omega (arith, c .before .if2 .left, c .before .before .before .child-len .ensures)) (λ e. c .before .before .before .before .before .if1 .left (e ∙ sym (c .before .before .before .before .before .before .count .ensures .is)))
+give-on-requires c κs =
+    let over = c .before in
+    let measured = over .before .before in
+    let more = measured .before .before in
+    next-asks _ (more .before .before .before .before .pre) (omega (arith, over .if2 .left, measured .child-len .ensures))
+    (λ e. more .if1 .left (e ∙ sym (more .before .count .ensures .is)))
 
 split-over-requires-2 : tie.Need-split-over-requires-2
-split-over-requires-2 c κs = next-poised _ _ (c .before .before .before .before .before .before .before .before .before .before .before .before .before .pre) (omega (arith, c .before .before .before .before .before .if2 .left, c .before .before .before .before .before .before .before .child-len .ensures)) (λ e. c .before .before .before .before .before .before .before .before .before .if1 .left (e ∙ sym (c .before .before .before .before .before .before .before .before .before .before .count .ensures .is))) (c .before .before .before .give-on .ensures)
+split-over-requires-2 c κs =
+    let given = c .before .before .before in
+    let over = given .before .before in
+    let measured = over .before .before in
+    let more = measured .before .before in
+    next-poised _ _ (more .before .before .before .before .pre) (omega (arith, over .if2 .left, measured .child-len .ensures))
+    (λ e. more .if1 .left (e ∙ sym (more .before .count .ensures .is))) (given .give-on .ensures)
 
 returns-3 : tie.Need-returns-3
-returns-3 c = next-left _ _ _ _ (c .before .before .before .before .before .before .before .before .before .before .before .before .before .before .before .before .pre) (omega (arith, c .before .before .before .before .before .before .before .before .if2 .left, c .before .before .before .before .before .before .before .before .before .before .child-len .ensures)) (λ e. c .before .before .before .before .before .before .before .before .before .before .before .before .if1 .left (e ∙ sym (c .before .before .before .before .before .before .before .before .before .before .before .before .before .count .ensures .is))) (c .before .before .before .before .before .before .give-on .ensures) (c .before .before .split-over2 .ensures)
+returns-3 c =
+    let given = c .before .before .before .before .before .before in
+    let over = given .before .before in
+    let measured = over .before .before in
+    let more = measured .before .before in
+    next-left _ _ _ _ (more .before .before .before .before .pre) (omega (arith, over .if2 .left, measured .child-len .ensures))
+    (λ e. more .if1 .left (e ∙ sym (more .before .count .ensures .is))) (given .give-on .ensures) (c .before .before .split-over2 .ensures)
 
 pub share-next-spec : {M : Type 1} → statement M
 share-next-spec =

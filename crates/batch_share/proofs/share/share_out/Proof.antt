@@ -6,22 +6,39 @@ use Rattle.batch_share.proofs.share.share_out.Statement.{statement}
 use Rattle.batch_share.proofs.share.share_out.Tie as tie
 
 sub-give-back : tie.Need-sub-give-back
-sub-give-back c = out-some _ (c .before .before .before .before .before .pre .0) (sym (c .before .before .room-before .ensures) ∙ c .before .if1 .taken)
+sub-give-back c =
+    let room = c .before in
+    out-some _ (room .before .before .before .before .pre .0) (sym (room .before .room-before .ensures) ∙ room .if1 .taken)
 
 give-back-requires : tie.Need-give-back-requires
-give-back-requires c κs = out-asks _ (c .before .before .before .before .before .pre .0) (sym (c .before .before .room-before .ensures) ∙ c .before .if1 .taken) (c .before .before .before .before .before .pre .1 .over)
+give-back-requires c κs =
+    let room = c .before in
+    let start = room .before .before .before .before in
+    out-asks _ (start .pre .0) (sym (room .before .room-before .ensures) ∙ room .if1 .taken) (start .pre .1 .over)
 
 share-next-requires : tie.Need-share-next-requires
-share-next-requires c κs = out-poised _ _ (c .before .before .before .before .before .before .before .before .before .pre .0) (sym (c .before .before .before .before .before .before .room-before .ensures) ∙ c .before .before .before .before .before .if1 .taken) (c .before .before .before .give-back .ensures)
+share-next-requires c κs =
+    let given = c .before .before .before in
+    let room = given .before .before in
+    out-poised _ _ (room .before .before .before .before .pre .0) (sym (room .before .room-before .ensures) ∙ room .if1 .taken) (given .give-back .ensures)
 
 sub-t15 : tie.Need-sub-t15
-sub-t15 c = out-some _ (c .before .before .before .before .before .before .before .before .before .before .before .before .pre .0) (sym (c .before .before .before .before .before .before .before .before .before .room-before .ensures) ∙ c .before .before .before .before .before .before .before .before .if1 .taken)
+sub-t15 c =
+    let room = c .before .before .before .before .before .before .before .before in
+    out-some _ (room .before .before .before .before .pre .0) (sym (room .before .room-before .ensures) ∙ room .if1 .taken)
 
 returns : tie.Need-returns
-returns c = out-ended _ _ _ _ (c .before .before .before .before .before .before .before .before .before .before .before .before .pre .0) (sym (c .before .before .before .before .before .before .before .before .before .room-before .ensures) ∙ c .before .before .before .before .before .before .before .before .if1 .taken) refl (c .before .before .before .before .before .before .give-back .ensures) (c .before .before .share-next .ensures)
+returns c =
+    let given = c .before .before .before .before .before .before in
+    let room = given .before .before in
+    out-ended _ _ _ _ (room .before .before .before .before .pre .0) (sym (room .before .room-before .ensures) ∙ room .if1 .taken) refl
+    (given .give-back .ensures) (c .before .before .share-next .ensures)
 
 returns-2 : tie.Need-returns-2
-returns-2 c = out-stayed _ _ _ (c .before .before .before .before .before .before .before .before .pre .0) (sym (c .before .before .before .before .before .room-before .ensures) ∙ c .before .before .before .before .if1 .left) refl (c .before .before .share-next2 .ensures)
+returns-2 c =
+    let none = c .before .before .before .before in
+    out-stayed _ _ _ (none .before .before .before .before .pre .0) (sym (none .before .room-before .ensures) ∙ none .if1 .left) refl
+    (c .before .before .share-next2 .ensures)
 
 pub share-out-spec : {M : Type 1} → statement M
 share-out-spec =

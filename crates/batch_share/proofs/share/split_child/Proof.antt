@@ -1,7 +1,7 @@
--- `split_child` meets its contract: the steps are those of `Halves`. Assumes nothing.
+-- `split_child` meets its contract: each step does to the pool what the model's split of the child does to the family (`Halves`). Assumes nothing.
 use native.Mathlib.Omega.{arith}
-use Rattle.batch_share.proofs.Focuses.{poise-focus, poise-new, focus-sits, focus-few}
-use Rattle.batch_share.proofs.Halves.{can-split, upper-weighs, upper-room, lower-renews, half-below, half-left}
+use Rattle.batch_share.proofs.Focuses.{poise-focus, focus-sits, focus-few}
+use Rattle.batch_share.proofs.Halves.{new-in, can-split, upper-weighs, upper-room, lower-renews, half-below, half-left}
 use borrow.Author.Needs.{needs}
 use Rattle.batch_share.proofs.share.split_child.Statement.{statement}
 use Rattle.batch_share.proofs.share.split_child.Tie as tie
@@ -10,61 +10,61 @@ child-at-requires : tie.Need-child-at-requires
 child-at-requires c κs = focus-sits (poise-focus (c .before .before .pre))
 
 split-requires : tie.Need-split-requires
-split-requires c κs =
-    let pre = c .before .before .before .before .pre in
-    let named = c .before .child-at .ensures .is in
-    let x = c .before .before .before .before .args .low in
-    let xin = poise-new pre x (pre .lowest) (omega arith) in
-    can-split (poise-focus pre) _ x named (pre .lowest) xin
+split-requires c κs = can-split (c .before .before .before .before .pre) _ (c .before .child-at .ensures .is)
 
 weigh-requires : tie.Need-weigh-requires
 weigh-requires c κs =
-    let pre = c .before .before .before .before .before .before .before .before .pre in
-    let named = c .before .before .before .before .before .child-at .ensures .is in
-    let x = c .before .before .before .before .before .before .before .before .args .low in
-    let xin = poise-new pre x (pre .lowest) (omega arith) in
-    upper-weighs (poise-focus pre) _ x named (pre .lowest) xin _ (c .before .before .before .split .ensures)
+    let child = c .before .before .before .before .before in
+    upper-weighs (child .before .before .before .pre) _ (child .child-at .ensures .is) _ (c .before .before .before .split .ensures)
 
 add-insert-row : tie.Need-add-insert-row
-add-insert-row c = omega (arith, focus-few (poise-focus (c .before .before .before .before .before .before .before .before .before .before .pre)))
+add-insert-row c =
+    let child = c .before .before .before .before .before .before .before in
+    omega (arith, focus-few (poise-focus (child .before .before .before .pre)))
 
 insert-row-requires : tie.Need-insert-row-requires
 insert-row-requires c κs =
-    let pre = c .before .before .before .before .before .before .before .before .before .before .pre in
-    let named = c .before .before .before .before .before .before .before .child-at .ensures .is in
-    let x = c .before .before .before .before .before .before .before .before .before .before .args .low in
-    let xin = poise-new pre x (pre .lowest) (omega arith) in
-    upper-room (poise-focus pre) _ x named (pre .lowest) xin _ (c .before .before .before .before .before .split .ensures) (pre .few)
+    let cut = c .before .before .before .before .before in
+    let child = cut .before .before in
+    upper-room (child .before .before .before .pre) _ (child .child-at .ensures .is) _ (cut .split .ensures)
 
 renew-requires : tie.Need-renew-requires
 renew-requires c κs =
-    let pre = c .before .before .before .before .before .before .before .before .before .before .before .before .before .before .pre in
-    let named = c .before .before .before .before .before .before .before .before .before .before .before .child-at .ensures .is in
-    let x = c .before .before .before .before .before .before .before .before .before .before .before .before .before .before .args .low in
-    let xin = poise-new pre x (pre .lowest) (omega arith) in
-    lower-renews (poise-focus pre) _ x named (pre .lowest) xin _ (c .before .before .before .before .before .before .before .before .before .split .ensures) _ (c .before .before .before .before .before .weigh .ensures) _ (c .before .before .before .insert-row .ensures)
+    let put = c .before .before .before in
+    let weighed = put .before .before in
+    let cut = weighed .before .before .before .before in
+    let child = cut .before .before in
+    lower-renews (child .before .before .before .pre) _ (child .child-at .ensures .is) _ (cut .split .ensures) _ (weighed .weigh .ensures) _
+    (put .insert-row .ensures)
 
 add-lowest-unused : tie.Need-add-lowest-unused
 add-lowest-unused c =
-    let pre = c .before .before .before .before .before .before .before .before .before .before .before .before .before .before .before .before .before .before .pre in
-    omega (arith, poise-new pre _ (pre .lowest) (omega arith), pre .family .held .shape .limits .bounded)
+    let put = c .before .before .before .before .before .before .before in
+    let child = put .before .before .before .before .before .before .before .before in
+    let pre = child .before .before .before .pre in
+    omega (arith, new-in pre _ (child .child-at .ensures .is), pre .family .held .shape .limits .bounded)
 
 lowest-unused-requires : tie.Need-lowest-unused-requires
 lowest-unused-requires c κs =
-    let pre = c .before .before .before .before .before .before .before .before .before .before .before .before .before .before .before .before .before .before .pre in
-    let named = c .before .before .before .before .before .before .before .before .before .before .before .before .before .before .before .child-at .ensures .is in
-    let x = c .before .before .before .before .before .before .before .before .before .before .before .before .before .before .before .before .before .before .args .low in
-    let xin = poise-new pre x (pre .lowest) (omega arith) in
-    let d = half-below (poise-focus pre) _ x named (pre .lowest) xin _ (c .before .before .before .before .before .before .before .before .before .before .before .before .before .split .ensures) _ (c .before .before .before .before .before .before .before .before .before .weigh .ensures) _ (c .before .before .before .before .before .before .before .insert-row .ensures) (pre .room) _ (c .before .before .before .renew .ensures) in
-    (c .before .before .before .renew .ensures .held, (omega (arith, xin), d))
+    let renewed = c .before .before .before in
+    let put = renewed .before .before .before .before in
+    let weighed = put .before .before in
+    let cut = weighed .before .before .before .before in
+    let child = cut .before .before in
+    let pre = child .before .before .before .pre in
+    let named = child .child-at .ensures .is in
+    let below = half-below pre _ named _ (cut .split .ensures) _ (weighed .weigh .ensures) _ (put .insert-row .ensures) _ (renewed .renew .ensures) in
+    (renewed .renew .ensures .held, (omega (arith, new-in pre _ named), below))
 
 returns : tie.Need-returns
 returns c =
-    let pre = c .before .before .before .before .before .before .before .before .before .before .before .before .before .before .before .before .before .before .before .pre in
-    let named = c .before .before .before .before .before .before .before .before .before .before .before .before .before .before .before .before .child-at .ensures .is in
-    let x = c .before .before .before .before .before .before .before .before .before .before .before .before .before .before .before .before .before .before .before .args .low in
-    let xin = poise-new pre x (pre .lowest) (omega arith) in
-    half-left (poise-focus pre) _ x named (pre .lowest) xin _ (c .before .before .before .before .before .before .before .before .before .before .before .before .before .before .split .ensures) _ (c .before .before .before .before .before .before .before .before .before .before .weigh .ensures) _ (c .before .before .before .before .before .before .before .before .insert-row .ensures) (pre .room) _ (c .before .before .before .before .renew .ensures) _ (c .lowest-unused .ensures)
+    let renewed = c .before .before .before .before in
+    let put = renewed .before .before .before .before in
+    let weighed = put .before .before in
+    let cut = weighed .before .before .before .before in
+    let child = cut .before .before in
+    half-left (child .before .before .before .pre) _ (child .child-at .ensures .is) _ (cut .split .ensures) _ (weighed .weigh .ensures) _
+    (put .insert-row .ensures) _ (renewed .renew .ensures) _ (c .lowest-unused .ensures)
 
 pub split-child-spec : {M : Type 1} → statement M
 split-child-spec =

@@ -1,4 +1,4 @@
--- `split_over` meets its contract, by its test. Assumes nothing.
+-- `split_over` meets its contract: a child that fits stays (`fits-rowed`), and one that does not is split (`over-rowed`). Assumes nothing.
 use native.Mathlib.Omega.{arith}
 use Rattle.batch_share.proofs.Focuses.{poise-focus, focus-sits}
 use Rattle.batch_share.proofs.Shares.{fits-rowed, over-rowed}
@@ -13,7 +13,11 @@ returns : tie.Need-returns
 returns c = fits-rowed (c .before .before .before .before .before .pre) (omega (arith, c .if1 .taken, c .before .before .child-len .ensures))
 
 returns-2 : tie.Need-returns-2
-returns-2 c = over-rowed (c .before .before .before .before .before .before .before .before .before .pre) _ _ (omega (arith, c .before .before .before .before .if1 .left, c .before .before .before .before .before .before .child-len .ensures)) (c .before .before .split-child .ensures)
+returns-2 c =
+    let over = c .before .before .before .before in
+    let measured = over .before .before in
+    over-rowed (measured .before .before .before .pre) _ _ (omega (arith, over .if1 .left, measured .child-len .ensures))
+    (c .before .before .split-child .ensures)
 
 pub split-over-spec : {M : Type 1} → statement M
 split-over-spec =

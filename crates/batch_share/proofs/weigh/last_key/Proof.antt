@@ -1,4 +1,4 @@
--- `last_key` meets its contract. Assumes nothing.
+-- `last_key` meets its contract: a node without rows has no last key (`no-key`), and another's is that of its last row (`key-last`). Assumes nothing.
 use mathlib.Core.Path.{sym, _∙_}
 use borrow.Author.Needs.{needs}
 use Rattle.words.specs.Words.{words}

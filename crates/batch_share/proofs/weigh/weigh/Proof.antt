@@ -16,7 +16,11 @@ child-row-requires c κs =
     let pre = c .before .before .before .pre in
     let live = ap (λ (t : Totals). t .live) (c .stats .ensures) in
     let dead = ap (λ (t : Totals). t .dead) (c .stats .ensures) in
-    record { slot = omega (arith, pre .slot, pre .held .shape .limits .bounded); live = omega (arith, live, pre .sums .few); dead = omega (arith, dead, pre .sums .few) }
+    record {
+      slot = omega (arith, pre .slot, pre .held .shape .limits .bounded);
+      live = omega (arith, live, pre .sums .few);
+      dead = omega (arith, dead, pre .sums .few);
+    }
 
 returns : tie.Need-returns
 returns c =
