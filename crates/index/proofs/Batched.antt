@@ -1,20 +1,17 @@
 -- What the root has done to a sound pool keeps the promise of a batch. Assumes nothing.
-use Prim.Native.Nat.{ℕ, zero, suc, _+_, _≤_, _<_}
+use Prim.Native.Nat.{ℕ, zero, suc}
 use mathlib.Core.Path.{_≡_, refl, sym, ap, _∙_, subst}
 use mathlib.Core.Logic.{_≢_}
-use mathlib.Core.Bool.{Bool, true, false, not}
+use mathlib.Core.Bool.{true}
 use mathlib.Core.List.{List}
 use lib.ListN.{length}
-use borrow.Author.Tests.{not-false}
 use Rattle.words.specs.Words.{words}
 use Rattle.words.proofs.Laws.{Bytes}
-use Rattle.slots_pool.specs.Header.{settingsOf}
 use Rattle.slots.specs.Nodes.{nodes}
 use Rattle.model.specs.declared.Settings.{Settings}
 use Rattle.model.specs.declared.Counts.{Counts}
-use Rattle.model.specs.Tree.{Index}
 use Rattle.model.specs.Change.{Batched, batch}
-use Rattle.model.specs.Answer.{Answer, refused, done, unless}
+use Rattle.model.specs.Answer.{refused, done, unless}
 use Rattle.model.specs.Refuse.{Call, tasksOf, refusal}
 use Rattle.model.specs.Demands.{Lent}
 use Rattle.model.specs.Demands as D
@@ -69,22 +66,20 @@ module _ (c : Call) (l : List ℕ) where
             accepted = rw same passed;
           }
 
-      pub batch-done : (k : Counts) (m : List ℕ) → Changed (settingsIn l) (words l) (words m) (f .height) c k → length m ≡ length l → Bytes m → Batches c l (Batch.Done k) m
+      pub batch-done : (k : Counts) (m : List ℕ) → Changed (settingsIn l) (words l) (words m) (f .height) c k → length m ≡ length l → Bytes m
+          → Batches c l (Batch.Done k) m
       batch-done k m d len bytes =
           let b = batch (settingsIn l) (tasksOf c) (indexOf l) in
           let g : D.Batches (settingsIn l) c (indexOf l) b = one-batch (settingsIn l) c (indexOf l) (sound-index l s) lent passed in
           let i : batch (settingsIn l) (tasksOf c) (indexAt (nodesIn l) (f .height)) ≡ b = ap (batch (settingsIn l) (tasksOf c)) same in
           let image : m ≡ imageOf (settingsIn l) (b .index) =
-          held-bytes (settingsIn l) (b .index) (words m) m (d .held) (d .header ∙ sound-header l s) (subst (λ (x : Batched). HoldsIndex (nodes (settingsIn l) (words m)) (x .index)) i (d .holds))
-          (g .sound) refl (len ∙ s .exact) bytes in
+          held-bytes (settingsIn l) (b .index) (words m) m (d .held) (d .header ∙ sound-header l s)
+          (subst (λ (x : Batched). HoldsIndex (nodes (settingsIn l) (words m)) (x .index)) i (d .holds)) (g .sound) refl (len ∙ s .exact) bytes in
           let counts : k ≡ b .counts = d .counts ∙ ap (λ (x : Batched). x .counts) i in
           holds s (ap (λ (x : Counts). done x leaving m) counts ∙ ap (λ (x : List ℕ). done (b .counts) leaving x) image ∙ ap left (sym passed))
 
     -- the settings that the code has read are the pool's
     module _ (st : Settings) (own : st ≡ settingsIn l) where
-      pub order-few : st .order ≤ 32
-      order-few = rw own (s .settings .narrow)
-
       pub refused-by : (n : ℕ) → n ≢ 0 → Refuses st (f .height) (f .unused) c n → Batches c l (Batch.Refused n) l
       refused-by n some r = batch-refused n s some (refusal-is n (subst (λ (u : Settings). Refuses u (f .height) (f .unused) c n) own r))
 

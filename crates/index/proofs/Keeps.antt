@@ -1,5 +1,5 @@
 -- What the layers below have done keeps the promises of the calls. Assumes nothing.
-use Prim.Native.Nat.{ℕ, _+_, _*_, _≤_}
+use Prim.Native.Nat.{ℕ, _≤_}
 use native.Mathlib.Omega.{arith}
 use mathlib.Core.Path.{_≡_, refl, sym, ap, _∙_}
 use mathlib.Core.Bool.{Bool, true, false, cond, not}
@@ -18,7 +18,7 @@ use Rattle.model.specs.Refuse.{descend}
 use Rattle.model.specs.Frame.{writeNode}
 use borrow.Author.Tests.{not-true, not-false}
 use Rattle.model.proofs.Answers.{told-no}
-use Rattle.tree.specs.Pool.{SoundPool, settingsIn, indexOf}
+use Rattle.tree.specs.Pool.{SoundPool, indexOf}
 use Rattle.survey.specs.declared.Findings.{Findings}
 use Rattle.survey.specs.Surveyed.{Surveyed}
 use Rattle.look_output.specs.declared.Listed.{Listed}
@@ -32,7 +32,7 @@ use Rattle.frame_text.specs.Answers as Line
 use Rattle.index.specs.declared.TotalsAnswer.the-variants as Totalled
 use Rattle.index.specs.declared.GetAnswer.the-variants as Get
 use Rattle.index.specs.declared.ScanAnswer.the-variants as Scan
-use Rattle.index.specs.Promise.{Where, holds, fails, Left, _leaving_, leaves, Totalling, Gets, Scans, Frames, listed, swept, written}
+use Rattle.index.specs.Promise.{holds, fails, Left, _leaving_, leaves, Totalling, Gets, Scans, Frames, listed, swept, written}
 
 -- A SURVEY
 
@@ -50,6 +50,9 @@ module _ {l : List ℕ} {f : Findings} (s : Surveyed l f) where
     pub in-pool : (st : Settings) → st ≡ settingsOf (words l) → InPool l st (f .height)
     in-pool st g = record { sound = sound; own = g; tall = s .height (not-false (f .sound) e) }
 
+    pub narrow : (st : Settings) → st ≡ settingsOf (words l) → st .order ≤ 32
+    narrow st g = rw g (sound .settings .narrow)
+
 -- TOTALS
 
 pub totals-unsound : (l : List ℕ) → (SoundPool l → ⊥) → Totalling l (Totalled.Refused 2)
@@ -60,7 +63,8 @@ totals-told l t s e = holds s (ap done e)
 
 -- GET
 
-told : (g : Listing) (r : Listed) (out out′ : List ℕ) → Writes g out (r .written) (r .more) out′ → (done r leaving out′) ≡ (done (listed g) leaving written out g)
+told : (g : Listing) (r : Listed) (out out′ : List ℕ) → Writes g out (r .written) (r .more) out′
+    → (done r leaving out′) ≡ (done (listed g) leaving written out g)
 told g r out out′ w =
     let same : r ≡ listed g =
     ap (λ (n : ℕ). record { written = n; more = r .more }) (w .count) ∙ ap (λ (b : Bool). record { written = length (g .written); more = b }) (w .due) in

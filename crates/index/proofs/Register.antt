@@ -2,18 +2,17 @@
 -- change places. Assumes nothing.
 use mathlib.Core.Path.{_≡_, refl, sym, ap, _∙_, subst}
 use mathlib.Core.Bool.{false, cond}
-use mathlib.Core.List.{List, [], _∷_}
+use mathlib.Core.List.{List, []}
 use Prim.Native.Nat.{ℕ, zero, suc}
 use Rattle.model.specs.declared.Settings.{Settings}
 use Rattle.model.specs.declared.Counts.{Counts}
 use Rattle.model.specs.declared.Entry.{Entry}
-use Rattle.model.specs.Lists.{All, none, one}
+use Rattle.model.specs.Lists.{All, one}
 use Rattle.model.specs.Tree.{Index, newIndex, entriesOf}
 use Rattle.model.specs.Plain.{plainList, plainCounts, noCounts}
 use Rattle.model.specs.Change.{Batched, batch}
 use Rattle.model.specs.Answer.{Answer, refused, done, unless}
-use Rattle.model.specs.declared.Request.{Request}
-use Rattle.model.specs.Look.{Listing, listing, found, dueIn, getAll, scan}
+use Rattle.model.specs.Look.{Listing, getAll, scan}
 use Rattle.model.specs.Refuse.{Call, tasksOf, refusal, descend}
 use Rattle.model.specs.Sound.{Sound}
 use Rattle.model.specs.Demands as D
@@ -25,7 +24,7 @@ use Rattle.tree.proofs.Pools.{sound-index, image-sound, image-index, image-sett
 use Rattle.look_output.specs.Output.{roomIn}
 use Rattle.index.specs.declared.BatchAnswer.{BatchAnswer}
 use Rattle.index.specs.declared.BatchAnswer.the-variants as Batch
-use Rattle.index.specs.Promise.{Where, holds, fails, Left, _leaving_, leaves, unsound, Batches, batched, written, listed}
+use Rattle.index.specs.Promise.{Where, holds, fails, Left, _leaving_, leaves, Batches, batched, written, listed}
 use Rattle.index.specs.Register.{AnswersFrom, sweptOf, Turn, Runs, rest, next, plainAfter, plainRun, CountedBy, Counted, Demand3, Swap}
 
 -- WHAT A PROMISE SAYS OF A SOUND POOL
@@ -46,8 +45,9 @@ answers-from es l s e =
           ∙ ap (λ (g : Listing). done (listed g) leaving written out g) (m .gets ks (roomIn out)) in
           (ap (λ w. w .answer) q, ap (λ w. w .bytes) q);
       scans = λ q out r out′ p.
-          let e = by-sound s p ∙ ap (λ (g : Listing). done (sweptOf g (scan q (roomIn out) (indexOf l) .opened)) leaving written out g) (m .scans q (roomIn out)) in
-          ((scan q (roomIn out) (indexOf l) .opened, ap (λ w. w .answer) e), ap (λ w. w .bytes) e);
+          let n = scan q (roomIn out) (indexOf l) .opened in
+          let e = by-sound s p ∙ ap (λ (g : Listing). done (sweptOf g n) leaving written out g) (m .scans q (roomIn out)) in
+          ((n, ap (λ w. w .answer) e), ap (λ w. w .bytes) e);
     }
   where
     descends : (ks : List ℕ) → descend ks ≡ false → _≡_ {A = ℕ} (cond (descend ks) 5 0) 0
@@ -171,8 +171,9 @@ swap c d l m k m′ k′ x y x′ y′ lc ld apart b₁ b₂ b₃ b₄ =
     let fourth = counts-at (f₃ .settings) (f₃ .index) (accepted c m′ b₄) in
     let p : D.ChangePlaces (settingsIn l) c d (indexOf l) =
     M.swap (settingsIn l) c d (indexOf l) (sound-index l (a₁ .sound)) lc ld apart (a₁ .passed) (second .0) (a₃ .passed) (fourth .0) in
-    let e₂ : indexOf k ≡ batch (settingsIn l) (tasksOf d) (batch (settingsIn l) (tasksOf c) (indexOf l) .index) .index = index-at (f₁ .settings) (f₁ .index) f₂ in
-    let e₄ : indexOf k′ ≡ batch (settingsIn l) (tasksOf c) (batch (settingsIn l) (tasksOf d) (indexOf l) .index) .index = index-at (f₃ .settings) (f₃ .index) f₄ in
+    let on : Call → Index → Index = λ b i. batch (settingsIn l) (tasksOf b) i .index in
+    let e₂ : indexOf k ≡ on d (on c (indexOf l)) = index-at (f₁ .settings) (f₁ .index) f₂ in
+    let e₄ : indexOf k′ ≡ on c (on d (indexOf l)) = index-at (f₃ .settings) (f₃ .index) f₄ in
     record {
       one = a₁ .counts ∙ p .first ∙ sym (fourth .1);
       other = second .1 ∙ p .second ∙ sym (a₃ .counts);

@@ -6,7 +6,6 @@ use Rattle.model.specs.declared.Settings.{Settings}
 use Rattle.model.specs.Answer.{Answer, refused, done}
 use Rattle.model.specs.declared.Request.{Request}
 use Rattle.model.specs.Refuse.{Call}
-use Rattle.model.proofs.Answers.{refused-done}
 use Rattle.frame_text.specs.declared.WriteAnswer.{WriteAnswer}
 use Rattle.frame.proofs.Undoes.{told-same}
 use Rattle.index.specs.declared.OpenAnswer.{OpenAnswer}
@@ -19,7 +18,8 @@ use Rattle.index.specs.declared.GetAnswer.{GetAnswer}
 use Rattle.index.specs.declared.GetAnswer.the-variants as Get
 use Rattle.index.specs.declared.ScanAnswer.{ScanAnswer}
 use Rattle.index.specs.declared.ScanAnswer.the-variants as Scan
-use Rattle.index.specs.Promise.{Where, holds, fails, Left, _leaving_, opening, Opens, totalled, Totalling, batched, Batches, got, Gets, scanned, Scans, Frames}
+use Rattle.index.specs.Promise.{Where, holds, fails, Left, _leaving_, Opens, Totalling, Batches, Gets, Scans, Frames}
+use Rattle.index.specs.Promise.{opening, totalled, batched, got, scanned}
 
 pub where-unique : {P : Type 0} {A : Type 0} {a b r s : A} → Where P a b r → Where P a b s → r ≡ s
 where-unique (holds p e) (holds q f) = e ∙ sym f
@@ -27,58 +27,59 @@ where-unique (holds p e) (fails q f) = absurd (q p)
 where-unique (fails p e) (holds q f) = absurd (p q)
 where-unique (fails p e) (fails q f) = e ∙ sym f
 
--- an answer is known by what it means
-module _ {A : Type 0} where
-  -- what a call leaves is known by its parts
-  parts : {a b : Answer A} {l m : List ℕ} → (a leaving l) ≡ (b leaving m) → (a ≡ b) × (l ≡ m)
-  parts e = (ap (λ (w : Left A). w .answer) e, ap (λ (w : Left A). w .bytes) e)
+-- what a call leaves is known by its parts
+parts : {A : Type 0} {a b : Answer A} {l m : List ℕ} → (a leaving l) ≡ (b leaving m) → (a ≡ b) × (l ≡ m)
+parts {A = A} e = (ap (λ (w : Left A). w .answer) e, ap (λ (w : Left A). w .bytes) e)
 
-same-opening : (r q : OpenAnswer) → opening r ≡ opening q → r ≡ q
-same-opening Open.Done Open.Done e = refl
-same-opening Open.Done (Open.Refused n) e = absurd (refused-done n tt (sym e))
-same-opening (Open.Refused n) Open.Done e = absurd (refused-done n tt e)
-same-opening (Open.Refused n) (Open.Refused m) e = cc
+-- an answer is known by what it means, where it is made of that again
+module _ {A R : Type 0} (made : A → R) (turned : ℕ → R) where
+  abbrev again : Answer A → R
+  again (done a) = made a
+  again (refused n) = turned n
 
-same-totals : (r q : TotalsAnswer) → totalled r ≡ totalled q → r ≡ q
-same-totals (Totalled.Done t) (Totalled.Done u) e = cc
-same-totals (Totalled.Done t) (Totalled.Refused n) e = absurd (refused-done n t (sym e))
-same-totals (Totalled.Refused n) (Totalled.Done t) e = absurd (refused-done n t e)
-same-totals (Totalled.Refused n) (Totalled.Refused m) e = cc
+  module _ (means : R → Answer A) (same : (r : R) → again (means r) ≡ r) where
+    known : (r q : R) → means r ≡ means q → r ≡ q
+    known r q e = sym (same r) ∙ ap again e ∙ same q
 
-same-batch : (r q : BatchAnswer) → batched r ≡ batched q → r ≡ q
-same-batch (Batch.Done t) (Batch.Done u) e = cc
-same-batch (Batch.Done t) (Batch.Refused n) e = absurd (refused-done n t (sym e))
-same-batch (Batch.Refused n) (Batch.Done t) e = absurd (refused-done n t e)
-same-batch (Batch.Refused n) (Batch.Refused m) e = cc
+    one-left : {P : Type 0} {a b : Left A} {k m : List ℕ} (r q : R) → Where P a b (means r leaving k) → Where P a b (means q leaving m) → (r ≡ q) × (k ≡ m)
+    one-left r q x y = let e = parts (where-unique x y) in (known r q (e .0), e .1)
 
-same-get : (r q : GetAnswer) → got r ≡ got q → r ≡ q
-same-get (Get.Done t) (Get.Done u) e = cc
-same-get (Get.Done t) (Get.Refused n) e = absurd (refused-done n t (sym e))
-same-get (Get.Refused n) (Get.Done t) e = absurd (refused-done n t e)
-same-get (Get.Refused n) (Get.Refused m) e = cc
+opening-again : (r : OpenAnswer) → again (λ u. Open.Done) Open.Refused (opening r) ≡ r
+opening-again Open.Done = refl
+opening-again (Open.Refused n) = refl
 
-same-scan : (r q : ScanAnswer) → scanned r ≡ scanned q → r ≡ q
-same-scan (Scan.Done t) (Scan.Done u) e = cc
-same-scan (Scan.Done t) (Scan.Refused n) e = absurd (refused-done n t (sym e))
-same-scan (Scan.Refused n) (Scan.Done t) e = absurd (refused-done n t e)
-same-scan (Scan.Refused n) (Scan.Refused m) e = cc
+totals-again : (r : TotalsAnswer) → again Totalled.Done Totalled.Refused (totalled r) ≡ r
+totals-again (Totalled.Done a) = refl
+totals-again (Totalled.Refused n) = refl
+
+batch-again : (r : BatchAnswer) → again Batch.Done Batch.Refused (batched r) ≡ r
+batch-again (Batch.Done a) = refl
+batch-again (Batch.Refused n) = refl
+
+get-again : (r : GetAnswer) → again Get.Done Get.Refused (got r) ≡ r
+get-again (Get.Done a) = refl
+get-again (Get.Refused n) = refl
+
+scan-again : (r : ScanAnswer) → again Scan.Done Scan.Refused (scanned r) ≡ r
+scan-again (Scan.Done a) = refl
+scan-again (Scan.Refused n) = refl
 
 -- THE CALLS
 
 pub one-opening : (st : Settings) (l k m : List ℕ) (r q : OpenAnswer) → Opens st l r k → Opens st l q m → (r ≡ q) × (k ≡ m)
-one-opening st l k m r q a b = let e = parts (where-unique a b) in (same-opening r q (e .0), e .1)
+one-opening st l k m = one-left (λ u. Open.Done) Open.Refused opening opening-again
 
 pub one-totals : (l : List ℕ) (r q : TotalsAnswer) → Totalling l r → Totalling l q → r ≡ q
-one-totals l r q a b = same-totals r q (where-unique a b)
+one-totals l r q a b = known Totalled.Done Totalled.Refused totalled totals-again r q (where-unique a b)
 
 pub one-batch : (c : Call) (l k m : List ℕ) (r q : BatchAnswer) → Batches c l r k → Batches c l q m → (r ≡ q) × (k ≡ m)
-one-batch c l k m r q a b = let e = parts (where-unique a b) in (same-batch r q (e .0), e .1)
+one-batch c l k m = one-left Batch.Done Batch.Refused batched batch-again
 
 pub one-get : (l ks out k m : List ℕ) (r q : GetAnswer) → Gets l ks out r k → Gets l ks out q m → (r ≡ q) × (k ≡ m)
-one-get l ks out k m r q a b = let e = parts (where-unique a b) in (same-get r q (e .0), e .1)
+one-get l ks out k m = one-left Get.Done Get.Refused got get-again
 
 pub one-scan : (l : List ℕ) (p : Request) (out k m : List ℕ) (r q : ScanAnswer) → Scans l p out r k → Scans l p out q m → (r ≡ q) × (k ≡ m)
-one-scan l p out k m r q a b = let e = parts (where-unique a b) in (same-scan r q (e .0), e .1)
+one-scan l p out k m = one-left Scan.Done Scan.Refused scanned scan-again
 
 pub one-frame : (l : List ℕ) (i : ℕ) (line k m : List ℕ) (r q : WriteAnswer) → Frames l i line r k → Frames l i line q m → (r ≡ q) × (k ≡ m)
 one-frame l i line k m r q a b = let e = parts (where-unique a b) in (told-same r q (e .0), e .1)

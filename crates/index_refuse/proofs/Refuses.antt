@@ -1,12 +1,12 @@
 -- The refusals of a batch in the table's order, and keys that descend. Assumes nothing.
-use Prim.Native.Nat.{ℕ, zero, suc, _+_, _-_, _*_, _<_, _≤_, max}
+use Prim.Native.Nat.{ℕ, suc, _+_, _-_, _*_, _<_, _≤_, max}
 use native.Mathlib.Omega.{arith}
 use native.Mathlib.Numerals.{add-one}
 use mathlib.Core.Path.{_≡_, refl, ap, sym, _∙_}
-use mathlib.Core.Bool.{Bool, true, false, cond, _&&_, _||_, not}
+use mathlib.Core.Bool.{true, false}
 use mathlib.Core.List.{List, [], _∷_}
-use lib.Dec.{eqb, ltb, leb}
-use lib.ListN.{length, getD, drop, length-drop, drop-of-length-le}
+use lib.Dec.{leb}
+use lib.ListN.{length, getD, drop, length-drop}
 use lib.Seq.{drop-cons}
 use borrow.Author.Tests.{lt-ltb, le-ltb, lt-leb, le-leb}
 use Rattle.model.specs.declared.Settings.{Settings}
@@ -50,6 +50,13 @@ needed-high n d h = let e : max d 2 ≡ d = omega arith in rw e refl
 
 -- A BATCH
 
+-- what it has passed where height and nodes matter
+pub record Passed (st : Settings) (c : Call) : Type 0 where
+  pub few : length (c .keys) ≤ st .order
+  pub matched : miscounts (c .operation) (length (c .places)) (length (c .sizes)) (length (c .keys)) ≡ false
+  pub rising : descend (c .keys) ≡ false
+  pub weighed : exempts (c .operation) (length (c .keys)) ≡ false
+
 module _ (st : Settings) (c : Call) (x : Index) where
   abbrev n : ℕ
   n = length (c .keys)
@@ -65,24 +72,28 @@ module _ (st : Settings) (c : Call) (x : Index) where
       pub refuses-5 : descend (c .keys) ≡ true → 5 ≡ refusal st c x
       refuses-5 h = simp (le-ltb _ _ few, matched, h) refl
 
-      module _ (rising : descend (c .keys) ≡ false) where
-        pub refuses-none : exempts (c .operation) n ≡ true → 0 ≡ refusal st c x
-        refuses-none h = simp (le-ltb _ _ few, matched, rising, h) refl
+      pub refuses-none : descend (c .keys) ≡ false → exempts (c .operation) n ≡ true → 0 ≡ refusal st c x
+      refuses-none rising h = simp (le-ltb _ _ few, matched, rising, h) refl
 
-        module _ (weighed : exempts (c .operation) n ≡ false) where
-          pub refuses-6 : 7 ≤ x .height → 6 ≡ refusal st c x
-          refuses-6 h = let d : 8 ≤ suc (x .height) = omega arith in simp (le-ltb _ _ few, matched, rising, weighed, le-leb _ _ d) refl
+  module _ (p : Passed st c) where
+    pub refuses-6 : 7 ≤ x .height → 6 ≡ refusal st c x
+    refuses-6 h =
+        let d : 8 ≤ suc (x .height) = omega arith in
+        simp (le-ltb _ _ (p .few), p .matched, p .rising, p .weighed, le-leb _ _ d) refl
 
-          module _ (low : x .height < 7) where
-            deep : leb 8 (suc (x .height)) ≡ false
-            deep = let d : suc (x .height) < 8 = omega arith in lt-leb _ _ d
+    module _ (low : x .height < 7) (m : ℕ) (e : m ≡ needed n (x .height + 1)) where
+      deep : leb 8 (suc (x .height)) ≡ false
+      deep = let d : suc (x .height) < 8 = omega arith in lt-leb _ _ d
 
-            pub refuses-7 : (m : ℕ) → m ≡ needed n (x .height + 1) → length (x .unused) < m → 7 ≡ refusal st c x
-            refuses-7 m e g =
-                let h : length (x .unused) < needed n (suc (x .height)) = rw (sym (ap (needed n) (add-one (x .height))), sym e) g in
-                simp (le-ltb _ _ few, matched, rising, weighed, deep, lt-ltb _ _ h) refl
+      wants : needed n (suc (x .height)) ≡ m
+      wants = ap (needed n) (sym (add-one (x .height))) ∙ sym e
 
-            pub refuses-not : (m : ℕ) → m ≡ needed n (x .height + 1) → m ≤ length (x .unused) → 0 ≡ refusal st c x
-            refuses-not m e g =
-                let h : needed n (suc (x .height)) ≤ length (x .unused) = rw (sym (ap (needed n) (add-one (x .height))), sym e) g in
-                simp (le-ltb _ _ few, matched, rising, weighed, deep, le-ltb _ _ h) refl
+      pub refuses-7 : length (x .unused) < m → 7 ≡ refusal st c x
+      refuses-7 g =
+          let h : length (x .unused) < needed n (suc (x .height)) = rw wants g in
+          simp (le-ltb _ _ (p .few), p .matched, p .rising, p .weighed, deep, lt-ltb _ _ h) refl
+
+      pub refuses-not : m ≤ length (x .unused) → 0 ≡ refusal st c x
+      refuses-not g =
+          let h : needed n (suc (x .height)) ≤ length (x .unused) = rw wants g in
+          simp (le-ltb _ _ (p .few), p .matched, p .rising, p .weighed, deep, le-ltb _ _ h) refl

@@ -1,56 +1,47 @@
-use mathlib.Core.Path.{_≡_, sym, _∙_}
-use Rattle.index.proofs.Keeps.{unsound, sound, has-header, in-pool, get-unsound, get-descends, get-told}
+-- `get` meets its contract: the survey tells whether the pool is sound; where it is not the call refuses (`get-unsound`), and so it does keys that
+-- descend (`get-descends`); else what was written is the model's listing (`get-told`). Assumes nothing.
+use mathlib.Core.Path.{sym, _∙_}
 use borrow.Author.Needs.{needs}
+use Rattle.index.proofs.Keeps.{unsound, sound, has-header, in-pool, get-unsound, get-descends, get-told}
 use Rattle.index.proofs.get.Statement.{statement}
 use Rattle.index.proofs.get.Tie as tie
-use Rattle.index.proofs.get.Reads as reads
-use Rattle.index.proofs.get.Lts as lts
-use Rattle.index_refuse.proofs.descends.Reads as descends-reads
-use Rattle.look.proofs.get.Reads as get-reads
-use Rattle.slots_pool.proofs.settings.Reads as settings-reads
-use Rattle.survey.proofs.survey.Reads as survey-reads
 
--- src/lib.rt:78:9
-survey-requires : tie.Need-survey-requires
-survey-requires c κs = search needs
-
--- src/lib.rt:80:9
 returns : tie.Need-returns
-returns c = let a = c .before .before .before .before .before .before .args in get-unsound _ (a .keys .now) _ (unsound (c .before .before .survey .ensures) (c .if1 .taken))
+returns c =
+    let a = c .before .before .before .before .before .before .args in
+    get-unsound _ (a .keys .now) _ (unsound (c .before .before .survey .ensures) (c .if1 .taken))
 
--- src/lib.rt:82:8
-descends-requires : tie.Need-descends-requires
-descends-requires c κs = search needs
-
--- src/lib.rt:83:9
 returns-2 : tie.Need-returns-2
-returns-2 c = let a = c .before .before .before .before .before .before .before .before .args in get-descends _ (a .keys .now) _ (sound (c .before .before .before .before .survey .ensures) (c .before .before .if1 .left)) (sym (c .before .descends .ensures) ∙ c .if2 .taken)
+returns-2 c =
+    let checked = c .before .before in
+    let a = checked .before .before .before .before .before .before .args in
+    get-descends _ (a .keys .now) _ (sound (checked .before .before .survey .ensures) (checked .if1 .left)) (sym (c .before .descends .ensures) ∙ c .if2 .taken)
 
--- src/lib.rt:85:9
 settings-requires : tie.Need-settings-requires
-settings-requires c κs = has-header (c .before .before .before .before .survey .ensures) (c .before .before .if1 .left)
+settings-requires c κs = let checked = c .before .before in has-header (checked .before .before .survey .ensures) (checked .if1 .left)
 
--- src/lib.rt:86:9
 get-requires : tie.Need-get-requires
-get-requires c κs = in-pool (c .before .before .before .before .before .before .survey .ensures) (c .before .before .before .before .if1 .left) _ (c .before .settings .ensures)
+get-requires c κs =
+    let checked = c .before .before .before .before in
+    in-pool (checked .before .before .survey .ensures) (checked .if1 .left) _ (c .before .settings .ensures)
 
--- src/lib.rt:75:1
-same-length : tie.Need-same-length
-same-length c = search needs
-
--- src/lib.rt:75:1
 returns-3 : tie.Need-returns-3
-returns-3 c = let a = c .before .before .before .before .before .before .before .before .before .before .before .before .before .args in get-told _ (a .keys .now) _ (sound (c .before .before .before .before .before .before .before .before .before .survey .ensures) (c .before .before .before .before .before .before .before .if1 .left)) _ _ (sym (c .before .before .before .before .before .before .descends .ensures) ∙ c .before .before .before .before .before .if2 .left) (c .before .before .get .ensures)
+returns-3 c =
+    let ordered = c .before .before .before .before .before in
+    let checked = ordered .before .before in
+    let a = checked .before .before .before .before .before .before .args in
+    get-told _ (a .keys .now) _ (sound (checked .before .before .survey .ensures) (checked .if1 .left)) _ _
+    (sym (ordered .before .descends .ensures) ∙ ordered .if2 .left) (c .before .before .get .ensures)
 
 pub get-spec : {M : Type 1} → statement M
 get-spec =
     tie.close
     (tie.spec
-    survey-requires
+    (λ c κs. search needs)
     returns
-    descends-requires
+    (λ c κs. search needs)
     returns-2
     settings-requires
     get-requires
-    same-length
+    (λ c. search needs)
     returns-3)
