@@ -11,19 +11,16 @@ use Rattle.model.specs.Frame.{Frame, writeFrame}
 use Rattle.model.specs.Sound.{InLimits}
 use Rattle.tree.specs.Pool.{poolLen}
 use Rattle.frame.proofs.Undoes.{one-written}
-use Rattle.index.specs.Promise.{Where, holds, fails, opening, totalled, batched, got, scanned}
+use Rattle.index.specs.Promise.{Where, opening, totalled, batched, got, scanned}
 use Rattle.frame_text.specs.Answers.{lengthTold}
 use Rattle.index.specs.declared.OpenAnswer.{OpenAnswer}
-use Rattle.index.proofs.Unique.{one-opening, one-totals, one-batch, one-get, one-scan, one-frame}
-use Rattle.index_c_told.specs.Told.{codeOf, Reports, totalNumbers, countNumbers, listedNumbers, scannedNumbers, Fields, frameFields}
+use Rattle.index.proofs.Unique.{where-unique, one-opening, one-totals, one-batch, one-get, one-scan, one-frame}
+use Rattle.index_c_told.specs.Told.{codeOf, totalNumbers, countNumbers, listedNumbers, scannedNumbers, Fields, frameFields}
 use Rattle.index_c.specs.Calls.{OpenCall, TotalsCall, BatchCall, GetCall, ScanCall, FrameCall, WriteCall, ReadCall}
 use Rattle.index_c_told.proofs.Reported.{one-report}
 
 pub one-pool-len : (st : Settings) (r q : ℕ) → Where (InLimits st) (poolLen st) 0 r → Where (InLimits st) (poolLen st) 0 q → r ≡ q
-one-pool-len st r q (holds p e) (holds s f) = e ∙ sym f
-one-pool-len st r q (holds p e) (fails n f) = absurd (n p)
-one-pool-len st r q (fails n e) (holds p f) = absurd (n p)
-one-pool-len st r q (fails n e) (fails m f) = e ∙ sym f
+one-pool-len st r q = where-unique
 
 pub one-open-call : (st : Settings) (l k m : List ℕ) (r q : ℕ) → OpenCall st l r k → OpenCall st l q m → (r ≡ q) × (k ≡ m)
 one-open-call st l k m r q x y =
