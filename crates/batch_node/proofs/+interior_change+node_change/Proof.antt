@@ -1,3 +1,5 @@
+-- The cycle of node change and interior change. The loop of an interior (`Roaming`): the model's walk, going on from the child, the key and the counts of
+-- now, ends as it does from the first child. The height falls round the cycle. Assumes nothing.
 use Prim.Native.Nat.{ℕ, suc, _+_, _-_, _*_, _<_}
 use mathlib.Core.Path.{_≡_, refl, sym, _∙_, subst}
 use native.Mathlib.Omega.{arith}
@@ -106,19 +108,31 @@ interior-change-roams-on-requires t c κs = round-at (c .before .loop .inv .0)
 
 interior-change-mul-key : (t : ℕ) → interior-change-lts.Need-mul-key (ic t) (interior-change-at t) interior-change.Post interior-change-Inv-loop interior-change-μ-loop
 interior-change-mul-key t c =
-    let w : c .before .before .before .loop .next < length (c .before .before .before .before .before .before .before .before .args .keys .now) = next-in (c .before .before .before .loop .inv .0) (sym (c .before .roams-on .ensures) ∙ c .if1 .taken) in
+    let asked = c .before in
+    let at = asked .before .before in
+    let keys = at .before .before .before .before .before .args .keys .now in
+    let w : at .loop .next < length keys = next-in (at .loop .inv .0) (sym (asked .roams-on .ensures) ∙ c .if1 .taken) in
     omega arith
 
 interior-change-shared-slice-read-key : (t : ℕ) → interior-change-lts.Need-shared-slice-read-key (ic t) (interior-change-at t) interior-change.Post interior-change-Inv-loop interior-change-μ-loop
-interior-change-shared-slice-read-key t c = next-in (c .before .before .before .before .loop .inv .0) (sym (c .before .before .roams-on .ensures) ∙ c .before .if1 .taken)
+interior-change-shared-slice-read-key t c =
+    let taken = c .before in
+    let asked = taken .before in
+    next-in (asked .before .before .loop .inv .0) (sym (asked .roams-on .ensures) ∙ taken .if1 .taken)
 
 interior-change-seek-child-requires : (t : ℕ) → interior-change-lts.Need-seek-child-requires (ic t) (interior-change-at t) interior-change.Post interior-change-Inv-loop interior-change-μ-loop
-interior-change-seek-child-requires t c κs = (round-at (c .before .before .before .before .before .loop .inv .0), child-in (c .before .before .before .before .before .loop .inv .0) (sym (c .before .before .before .roams-on .ensures) ∙ c .before .before .if1 .taken))
+interior-change-seek-child-requires t c κs =
+    let taken = c .before .before in
+    let asked = taken .before in
+    let at = asked .before .before in
+    (round-at (at .loop .inv .0), child-in (at .loop .inv .0) (sym (asked .roams-on .ensures) ∙ taken .if1 .taken))
 
 interior-change-row-at-requires : (t : ℕ) → interior-change-lts.Need-row-at-requires (ic t) (interior-change-at t) interior-change.Post interior-change-Inv-loop interior-change-μ-loop
 interior-change-row-at-requires t c κs =
-    let g = round-at (c .before .before .before .before .before .before .before .loop .inv .0) in
-    record { held = g .held; slot = g .slot; within = omega (arith, c .before .seek-child .ensures .within) }
+    let sought = c .before in
+    let at = sought .before .before .before .before .before .before in
+    let g = round-at (at .loop .inv .0) in
+    record { held = g .held; slot = g .slot; within = omega (arith, sought .seek-child .ensures .within) }
 
 interior-change-child-of-requires : (t : ℕ) → interior-change-lts.Need-child-of-requires (ic t) (interior-change-at t) interior-change.Post interior-change-Inv-loop interior-change-μ-loop
 interior-change-child-of-requires t c κs = tt
@@ -127,31 +141,71 @@ interior-change-ceiling-for-requires : (t : ℕ) → interior-change-lts.Need-ce
 interior-change-ceiling-for-requires t c κs = tt
 
 interior-change-node-change-requires : (t : ℕ) → interior-change-lts.Need-node-change-requires (ic t) (interior-change-at t) interior-change.Post interior-change-Inv-loop interior-change-μ-loop
-interior-change-node-change-requires t c κs = (
-  omega (arith, c .before .before .before .before .before .before .before .before .before .before .before .before .before .before .before .before .pre .0),
-  child-call (round (c .before .before .before .before .before .before .before .before .before .before .before .loop .inv .0) (sym (c .before .before .before .before .before .before .before .before .before .roams-on .ensures) ∙ c .before .before .before .before .before .before .before .before .if1 .taken)) (c .before .before .before .before .before .seek-child .ensures) (c .before .before .before .row-at .ensures) (c .before .before .child-of .ensures) (c .before .ceiling-for .ensures),
-)
+interior-change-node-change-requires t c κs =
+    let reach = c .before in
+    let child = reach .before in
+    let row = child .before in
+    let sought = row .before .before in
+    let taken = sought .before .before .before in
+    let asked = taken .before in
+    let at = asked .before .before in
+    let start = at .before .before .before .before .before in
+    let r = round (at .loop .inv .0) (sym (asked .roams-on .ensures) ∙ taken .if1 .taken) in (
+      omega (arith, start .pre .0),
+      child-call r (sought .seek-child .ensures) (row .row-at .ensures) (child .child-of .ensures) (reach .ceiling-for .ensures),
+    )
 
 interior-change-settle-child-requires : (t : ℕ) → interior-change-lts.Need-settle-child-requires (ic t) (interior-change-at t) interior-change.Post interior-change-Inv-loop interior-change-μ-loop
 interior-change-settle-child-requires t c κs =
-    pending (round (c .before .before .before .before .before .before .before .before .before .before .before .before .before .before .before .loop .inv .0) (sym (c .before .before .before .before .before .before .before .before .before .before .before .before .before .roams-on .ensures) ∙ c .before .before .before .before .before .before .before .before .before .before .before .before .if1 .taken)) (c .before .before .before .before .before .before .before .before .before .seek-child .ensures) (c .before .before .before .before .before .before .before .row-at .ensures) (c .before .before .before .before .before .before .child-of .ensures) (c .before .before .before .before .before .ceiling-for .ensures) (c .before .before .before .node-change .ensures)
+    let changed = c .before .before .before in
+    let reach = changed .before .before in
+    let child = reach .before in
+    let row = child .before in
+    let sought = row .before .before in
+    let taken = sought .before .before .before in
+    let asked = taken .before in
+    let at = asked .before .before in
+    let r = round (at .loop .inv .0) (sym (asked .roams-on .ensures) ∙ taken .if1 .taken) in
+    pending r (sought .seek-child .ensures) (row .row-at .ensures) (child .child-of .ensures) (reach .ceiling-for .ensures) (changed .node-change .ensures)
 
 interior-change-changed-by-requires : (t : ℕ) → interior-change-lts.Need-changed-by-requires (ic t) (interior-change-at t) interior-change.Post interior-change-Inv-loop interior-change-μ-loop
 interior-change-changed-by-requires t c κs = tt
 
 interior-change-loop-less : (t : ℕ) → interior-change-lts.Need-loop-less (ic t) (interior-change-at t) interior-change.Post interior-change-Inv-loop interior-change-μ-loop
 interior-change-loop-less t c =
+    let settled = c .before .before .before .before in
+    let changed = settled .before .before .before .before in
+    let reach = changed .before .before in
+    let child = reach .before in
+    let row = child .before in
+    let sought = row .before .before in
+    let taken = sought .before .before .before in
+    let asked = taken .before in
+    let at = asked .before .before in
+    let on = sym (asked .roams-on .ensures) ∙ taken .if1 .taken in
     omega (
       arith,
-      next-in (c .before .before .before .before .before .before .before .before .before .before .before .before .before .before .before .before .before .before .before .before .loop .inv .0) (sym (c .before .before .before .before .before .before .before .before .before .before .before .before .before .before .before .before .before .before .roams-on .ensures) ∙ c .before .before .before .before .before .before .before .before .before .before .before .before .before .before .before .before .before .if1 .taken),
-      round-less (round (c .before .before .before .before .before .before .before .before .before .before .before .before .before .before .before .before .before .before .before .before .loop .inv .0) (sym (c .before .before .before .before .before .before .before .before .before .before .before .before .before .before .before .before .before .before .roams-on .ensures) ∙ c .before .before .before .before .before .before .before .before .before .before .before .before .before .before .before .before .before .if1 .taken)) (c .before .before .before .before .before .before .before .before .before .before .before .before .before .before .seek-child .ensures) (c .before .before .before .before .before .before .before .before .before .before .before .before .row-at .ensures) (c .before .before .before .before .before .before .before .before .before .before .before .child-of .ensures) (c .before .before .before .before .before .before .before .before .before .before .ceiling-for .ensures) (c .before .before .before .before .before .before .before .before .node-change .ensures) (c .before .before .before .before .settle-child .ensures),
+      next-in (at .loop .inv .0) on,
+      round-less (round (at .loop .inv .0) on) (sought .seek-child .ensures) (row .row-at .ensures) (child .child-of .ensures) (reach .ceiling-for .ensures)
+          (changed .node-change .ensures) (settled .settle-child .ensures),
     )
 
 interior-change-loop-again : (t : ℕ) → interior-change-lts.Need-loop-again (ic t) (interior-change-at t) interior-change.Post interior-change-Inv-loop interior-change-μ-loop
-interior-change-loop-again t c = (
-  round-again (round (c .before .before .before .before .before .before .before .before .before .before .before .before .before .before .before .before .before .before .before .before .loop .inv .0) (sym (c .before .before .before .before .before .before .before .before .before .before .before .before .before .before .before .before .before .before .roams-on .ensures) ∙ c .before .before .before .before .before .before .before .before .before .before .before .before .before .before .before .before .before .if1 .taken)) (c .before .before .before .before .before .before .before .before .before .before .before .before .before .before .seek-child .ensures) (c .before .before .before .before .before .before .before .before .before .before .before .before .row-at .ensures) (c .before .before .before .before .before .before .before .before .before .before .before .child-of .ensures) (c .before .before .before .before .before .before .before .before .before .before .ceiling-for .ensures) (c .before .before .before .before .before .before .before .before .node-change .ensures) (c .before .before .before .before .settle-child .ensures) (c .before .changed-by .ensures),
-  c .before .before .before .before .settle-child .kept .0 ∙ c .before .before .before .before .before .before .before .before .node-change .kept .0 ∙ c .before .before .before .before .before .before .before .before .before .before .before .before .before .before .before .before .before .before .before .before .loop .inv .1,
-)
+interior-change-loop-again t c =
+    let settled = c .before .before .before .before in
+    let changed = settled .before .before .before .before in
+    let reach = changed .before .before in
+    let child = reach .before in
+    let row = child .before in
+    let sought = row .before .before in
+    let taken = sought .before .before .before in
+    let asked = taken .before in
+    let at = asked .before .before in
+    let r = round (at .loop .inv .0) (sym (asked .roams-on .ensures) ∙ taken .if1 .taken) in (
+      round-again r (sought .seek-child .ensures) (row .row-at .ensures) (child .child-of .ensures) (reach .ceiling-for .ensures) (changed .node-change .ensures)
+          (settled .settle-child .ensures) (c .before .changed-by .ensures),
+      settled .settle-child .kept .0 ∙ changed .node-change .kept .0 ∙ at .loop .inv .1,
+    )
 
 interior-change-count-requires : (t : ℕ) → interior-change-lts.Need-count-requires (ic t) (interior-change-at t) interior-change.Post interior-change-Inv-loop interior-change-μ-loop
 interior-change-count-requires t c κs = round-at (c .before .before .before .before .loop .inv .0)
@@ -164,38 +218,59 @@ interior-change-same-length t c = c .before .before .before .before .before .bef
 
 interior-change-returns : (t : ℕ) → interior-change-lts.Need-returns (ic t) (interior-change-at t) interior-change.Post interior-change-Inv-loop interior-change-μ-loop
 interior-change-returns t c =
-    round-end (c .before .before .before .before .before .before .loop .inv .0) (c .result-of .result) (sym (c .before .before .before .before .roams-on .ensures) ∙ c .before .before .before .if1 .left) (c .before .count .ensures .is) (c .result-of .ensures)
+    let ended = c .before .before .before in
+    let asked = ended .before in
+    round-end (asked .before .before .loop .inv .0) (c .result-of .result) (sym (asked .roams-on .ensures) ∙ ended .if1 .left) (c .before .count .ensures .is)
+    (c .result-of .ensures)
 
 node-change-leaf-change-requires : (t : ℕ) → node-change-lts.Need-leaf-change-requires (nc t) (node-change-at t) node-change.Post
 node-change-leaf-change-requires t c κs =
-    let a = c .before .before .before .before .before .before .args in
-    subst (λ (n : ℕ). Call (a .st) (words (a .pool .now)) n (a .s) (a .op) (a .places .now) (a .sizes .now) (a .keys .now) (a .at) (a .ceiling) (a .counts) (a .low)) (c .before .if1 .taken) (c .before .before .before .before .before .before .pre .1)
+    let start = c .before .before .before .before .before .before in
+    let a = start .args in
+    subst (λ (n : ℕ). Call (a .st) (words (a .pool .now)) n (a .s) (a .op) (a .places .now) (a .sizes .now) (a .keys .now) (a .at) (a .ceiling) (a .counts) (a .low))
+    (c .before .if1 .taken) (start .pre .1)
 
 node-change-same-length : (t : ℕ) → node-change-lts.Need-same-length (nc t) (node-change-at t) node-change.Post
 node-change-same-length t c = search needs
 
 node-change-returns : (t : ℕ) → node-change-lts.Need-returns (nc t) (node-change-at t) node-change.Post
 node-change-returns t c =
-    let a = c .before .before .before .before .before .before .before .before .before .args in
-    subst (λ (n : ℕ). Came (a .st) (words (a .pool .now)) (words (c .before .before .leaf-change .last .0)) n (a .s) (a .op) (a .places .now) (a .sizes .now) (a .keys .now) (a .at) (a .ceiling) (a .counts) (c .before .before .leaf-change .result)) (sym (c .before .before .before .before .if1 .taken)) (c .before .before .leaf-change .ensures)
+    let done = c .before .before in
+    let leaf = done .before .before in
+    let a = leaf .before .before .before .before .before .args in
+    let W = words (a .pool .now) in
+    let W′ = words (done .leaf-change .last .0) in
+    let r = done .leaf-change .result in
+    subst (λ (n : ℕ). Came (a .st) W W′ n (a .s) (a .op) (a .places .now) (a .sizes .now) (a .keys .now) (a .at) (a .ceiling) (a .counts) r)
+    (sym (leaf .if1 .taken)) (done .leaf-change .ensures)
 
 node-change-sub-interior-change : (t : ℕ) → node-change-lts.Need-sub-interior-change (nc t) (node-change-at t) node-change.Post
 node-change-sub-interior-change t c = omega (arith, c .before .if1 .left)
 
 node-change-interior-change-requires : (t : ℕ) → node-change-lts.Need-interior-change-requires (nc t) (node-change-at t) node-change.Post
 node-change-interior-change-requires t c κs =
-    let a = c .before .before .before .before .before .before .args in
-    let e : a .height ≡ suc (a .height - 1) = omega (arith, c .before .if1 .left) in
-    (omega (arith, c .before .before .before .before .before .before .pre .0), subst (λ (n : ℕ). Call (a .st) (words (a .pool .now)) n (a .s) (a .op) (a .places .now) (a .sizes .now) (a .keys .now) (a .at) (a .ceiling) (a .counts) (a .low)) e (c .before .before .before .before .before .before .pre .1))
+    let start = c .before .before .before .before .before .before in
+    let a = start .args in
+    let e : a .height ≡ suc (a .height - 1) = omega (arith, c .before .if1 .left) in (
+      omega (arith, start .pre .0),
+      subst (λ (n : ℕ). Call (a .st) (words (a .pool .now)) n (a .s) (a .op) (a .places .now) (a .sizes .now) (a .keys .now) (a .at) (a .ceiling) (a .counts) (a .low))
+          e (start .pre .1),
+    )
 
 node-change-same-length-2 : (t : ℕ) → node-change-lts.Need-same-length-2 (nc t) (node-change-at t) node-change.Post
 node-change-same-length-2 t c = search needs
 
 node-change-returns-2 : (t : ℕ) → node-change-lts.Need-returns-2 (nc t) (node-change-at t) node-change.Post
 node-change-returns-2 t c =
-    let a = c .before .before .before .before .before .before .before .before .before .args in
-    let e : a .height ≡ suc (a .height - 1) = omega (arith, c .before .before .before .before .if1 .left) in
-    subst (λ (n : ℕ). Came (a .st) (words (a .pool .now)) (words (c .before .before .interior-change .last .0)) n (a .s) (a .op) (a .places .now) (a .sizes .now) (a .keys .now) (a .at) (a .ceiling) (a .counts) (c .before .before .interior-change .result)) (sym e) (c .before .before .interior-change .ensures)
+    let done = c .before .before in
+    let interior = done .before .before in
+    let a = interior .before .before .before .before .before .args in
+    let W = words (a .pool .now) in
+    let W′ = words (done .interior-change .last .0) in
+    let r = done .interior-change .result in
+    let e : a .height ≡ suc (a .height - 1) = omega (arith, interior .if1 .left) in
+    subst (λ (n : ℕ). Came (a .st) W W′ n (a .s) (a .op) (a .places .now) (a .sizes .now) (a .keys .now) (a .at) (a .ceiling) (a .counts) r)
+    (sym e) (done .interior-change .ensures)
 
 pub +interior-change+node-change-spec : {M : Type 1} → statement M
 +interior-change+node-change-spec =

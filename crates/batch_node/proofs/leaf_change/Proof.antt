@@ -1,3 +1,4 @@
+-- `leaf_change` meets its contract: what the leaf took is the model's leaf, and its length tells the result. Assumes nothing.
 use Rattle.tree.specs.Bridge.{unusedOf}
 use Rattle.slots.specs.Nodes.{nodes}
 use Rattle.words.specs.Words.{words}
@@ -7,13 +8,23 @@ use Rattle.batch_node.proofs.leaf_change.Statement.{statement}
 use Rattle.batch_node.proofs.leaf_change.Tie as tie
 
 take-keys-requires : tie.Need-take-keys-requires
-take-keys-requires c κs = (leaf-asked (c .before .before .before .before .before .pre), c .before .before .before .before .before .pre .batch)
+take-keys-requires c κs = let start = c .before .before .before .before .before in (leaf-asked (start .pre), start .pre .batch)
 
 count-requires : tie.Need-count-requires
-count-requires c κs = record { held = c .before .before .before .take-keys .ensures (unusedOf (nodes (c .before .before .before .before .before .before .before .before .before .args .st) (words (c .before .before .before .before .before .before .before .before .before .args .pool .now)))) .did .held; slot = leaf-asked (c .before .before .before .before .before .before .before .before .before .pre) .slot }
+count-requires c κs =
+    let took = c .before .before .before in
+    let start = took .before .before .before .before .before .before in
+    let us = unusedOf (nodes (start .args .st) (words (start .args .pool .now))) in
+    record { held = took .take-keys .ensures us .did .held; slot = leaf-asked (start .pre) .slot }
 
 returns : tie.Need-returns
-returns c = let a = c .before .before .before .before .before .before .before .before .before .before .before .before .args in leaf-came (c .before .before .before .before .before .before .before .before .before .before .before .before .pre) (c .before .before .before .before .before .before .take-keys .ensures (unusedOf (nodes (a .st) (words (a .pool .now))))) (c .before .before .count .ensures .is) (c .before .result-of .result) (c .before .result-of .ensures)
+returns c =
+    let told = c .before in
+    let counted = told .before in
+    let took = counted .before .before .before .before in
+    let start = took .before .before .before .before .before .before in
+    let us = unusedOf (nodes (start .args .st) (words (start .args .pool .now))) in
+    leaf-came (start .pre) (took .take-keys .ensures us) (counted .count .ensures .is) (told .result-of .result) (told .result-of .ensures)
 
 pub leaf-change-spec : {M : Type 1} → statement M
 leaf-change-spec =

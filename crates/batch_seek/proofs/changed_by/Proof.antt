@@ -1,3 +1,4 @@
+-- `changed_by` meets its contract: result by result; all but the first are a change. Assumes nothing.
 use mathlib.Core.Path.{_∙_}
 use Rattle.batch_seek.proofs.Seeks.{or-false, or-true, or-same}
 use borrow.Author.Needs.{needs}

@@ -1,3 +1,4 @@
+-- `seek_child` meets its contract: from any child that the loop has come to, the key goes where it goes from the first one. Assumes nothing.
 use borrow.Author.Needs.{needs}
 use mathlib.Core.Path.{_≡_, refl}
 use Prim.Native.Nat.{_+_, _-_, _≤_, _<_}
@@ -13,7 +14,8 @@ use Rattle.batch_seek.proofs.seek_child.Tie as tie
 
 abbrev Inv-loop : tie.InvT-loop
 Inv-loop pool st s from key n i₀ i =
-    (from ≤ i) × ((i < length (rowsAt st (words pool) s)) × (i + skip key (drop i (rowsAt st (words pool) s)) ≡ from + skip key (drop from (rowsAt st (words pool) s))))
+    let l = rowsAt st (words pool) s in
+    (from ≤ i) × ((i < length l) × (i + skip key (drop i l) ≡ from + skip key (drop from l)))
 
 abbrev μ-loop : tie.MeasureT-loop
 μ-loop pool st s from key n i₀ i = n - i
@@ -22,7 +24,9 @@ loop-holds : tie.Need-loop-holds Inv-loop μ-loop
 loop-holds c = (omega arith, (c .before .before .pre .1, refl))
 
 key-at-requires : tie.Need-key-at-requires Inv-loop μ-loop
-key-at-requires c κs = record { held = c .before .before .before .before .pre .0 .held; slot = c .before .before .before .before .pre .0 .slot; within = omega (arith, c .before .loop .inv .1 .0) }
+key-at-requires c κs =
+    let start = c .before .before .before .before in
+    record { held = start .pre .0 .held; slot = start .pre .0 .slot; within = omega (arith, c .before .loop .inv .1 .0) }
 
 returns : tie.Need-returns Inv-loop μ-loop
 returns c =
