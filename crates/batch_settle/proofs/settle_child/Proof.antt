@@ -1,8 +1,8 @@
 -- `settle_child` meets its contract: the row is made new, and each result goes on from there (`Arms`). Assumes nothing.
 use mathlib.Core.Path.{refl}
+use borrow.Author.Needs.{needs}
 use Rattle.model.specs.declared.ChangeResult.the-variants.{Remove, Absorb, Split, Unchanged, Changed}
 use Rattle.batch_settle.proofs.Arms.{start-sits, start-renews, arm-asks, arm-stays, arm-ends}
-use borrow.Author.Needs.{needs}
 use Rattle.batch_settle.proofs.settle_child.Statement.{statement}
 use Rattle.batch_settle.proofs.settle_child.Tie as tie
 

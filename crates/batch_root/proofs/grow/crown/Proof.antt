@@ -8,9 +8,9 @@ use borrow.Author.Needs.{needs}
 use Rattle.words.specs.Words.{words}
 use Rattle.slots_raw.specs.declared.Row.{Row}
 use Rattle.slots.specs.Nodes.{Node, nodes, nth, rowsAt, putRows, putKind, putIn}
+use Rattle.batch_root.specs.Roots.{crowned}
 use Rattle.slots.proofs.Nodes.{then, become, length-nodes}
 use Rattle.slots.proofs.Pairs.{kept-same, own-rows}
-use Rattle.batch_root.specs.Roots.{crowned}
 use Rattle.batch_root.proofs.Sets.{two-rows}
 use Rattle.batch_root.proofs.grow.crown.Statement.{statement}
 use Rattle.batch_root.proofs.grow.crown.Tie as tie

@@ -8,9 +8,9 @@ use lib.ListN.{length}
 use borrow.Author.Needs.{needs}
 use Rattle.words.specs.Words.{words}
 use Rattle.slots.specs.Nodes.{Node, nodes, nth, rowsAt, putKind, backNodes}
+use Rattle.batch_root.specs.Roots.{moved}
 use Rattle.slots.proofs.Nodes.{then, become, length-nodes}
 use Rattle.slots.proofs.Pairs.{kept-kind, kept-same}
-use Rattle.batch_root.specs.Roots.{moved}
 use Rattle.batch_root.proofs.Indexes.{pool-lowest}
 use Rattle.batch_root.proofs.Sets.{moved-all}
 use Rattle.batch_root.proofs.grow.move_root.Statement.{statement}

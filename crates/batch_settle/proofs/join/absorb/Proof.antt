@@ -1,8 +1,8 @@
 -- `absorb` meets its contract: an only child stays, another is joined (`Joins`). Assumes nothing.
 use mathlib.Core.Path.{refl, sym, _∙_}
+use borrow.Author.Needs.{needs}
 use Rattle.batch_share.proofs.Places.{parent-in}
 use Rattle.batch_settle.proofs.Joins.{alone-ended, absorb-asks, absorbed}
-use borrow.Author.Needs.{needs}
 use Rattle.batch_settle.proofs.join.absorb.Statement.{statement}
 use Rattle.batch_settle.proofs.join.absorb.Tie as tie
 

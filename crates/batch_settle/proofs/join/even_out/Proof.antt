@@ -1,9 +1,9 @@
 -- `even_out` meets its contract: levelled, the two are the model's halves, and their rows in the parent are made new (`Turns`). Assumes nothing.
 use mathlib.Core.Path.{sym, _∙_}
 use native.Mathlib.Omega.{arith}
+use borrow.Author.Needs.{needs}
 use Rattle.batch_share.proofs.Turns.{apart-two, beside-few, sits-lower, sits-upper, moved-renews, moved-came}
 use Rattle.batch_share.proofs.Cuts.{evened}
-use borrow.Author.Needs.{needs}
 use Rattle.batch_settle.proofs.join.even_out.Statement.{statement}
 use Rattle.batch_settle.proofs.join.even_out.Tie as tie
 

@@ -1,8 +1,8 @@
 -- `join_children` meets its contract: what fits into one node is merged (`merged-rowed`), and what does not is levelled (`even-rowed`). Assumes nothing.
 use native.Mathlib.Omega.{arith}
+use borrow.Author.Needs.{needs}
 use Rattle.batch_share.proofs.Turns.{beside-few, sits-lower, sits-upper}
 use Rattle.batch_settle.proofs.Joins.{merged-rowed, even-rowed}
-use borrow.Author.Needs.{needs}
 use Rattle.batch_settle.proofs.join.join_children.Statement.{statement}
 use Rattle.batch_settle.proofs.join.join_children.Tie as tie
 

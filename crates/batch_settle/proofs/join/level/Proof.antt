@@ -1,9 +1,9 @@
 -- `level` meets its contract: a move of the right amount, either way, leaves the half in each. Assumes nothing.
+use borrow.Author.Needs.{needs}
 use Rattle.words.specs.Words.{words}
 use Rattle.slots.specs.Nodes.{nodes}
 use Rattle.slots.proofs.Nodes.{become}
 use Rattle.batch_share.proofs.Cuts.{level-back, level-on}
-use borrow.Author.Needs.{needs}
 use Rattle.batch_settle.proofs.join.level.Statement.{statement}
 use Rattle.batch_settle.proofs.join.level.Tie as tie
 

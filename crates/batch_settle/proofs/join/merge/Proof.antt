@@ -1,8 +1,8 @@
 -- `merge` meets its contract: each step does to the pool what the model's join does to the two (`Merges`). Assumes nothing.
 use native.Mathlib.Omega.{arith}
+use borrow.Author.Needs.{needs}
 use Rattle.batch_share.proofs.Turns.{beside-few, sits-lower, sits-upper}
 use Rattle.batch_settle.proofs.Merges.{can-join, upper-out, both-renews, merged-left}
-use borrow.Author.Needs.{needs}
 use Rattle.batch_settle.proofs.join.merge.Statement.{statement}
 use Rattle.batch_settle.proofs.join.merge.Tie as tie
 

@@ -1,7 +1,7 @@
 -- `take_out` meets its contract: the child's slot is released and its row taken out, and both are what the model leaves (`Outs`). Assumes nothing.
+use borrow.Author.Needs.{needs}
 use Rattle.batch_share.proofs.Focuses.{poise-focus, focus-sits}
 use Rattle.batch_settle.proofs.Outs.{child-out, taken-out}
-use borrow.Author.Needs.{needs}
 use Rattle.batch_settle.proofs.join.take_out.Statement.{statement}
 use Rattle.batch_settle.proofs.join.take_out.Tie as tie
 

@@ -1,9 +1,9 @@
 -- `give_on` meets its contract: the rows moved are the model's, and the two rows in the parent are made new (`Turns`). Assumes nothing.
 use mathlib.Core.Path.{sym, _∙_}
 use native.Mathlib.Omega.{arith}
+use borrow.Author.Needs.{needs}
 use Rattle.batch_share.proofs.Turns.{apart-two, beside-few, sits-lower, sits-upper, moved-renews, moved-came}
 use Rattle.batch_share.proofs.Cuts.{gave-on}
-use borrow.Author.Needs.{needs}
 use Rattle.batch_share.proofs.share.give_on.Statement.{statement}
 use Rattle.batch_share.proofs.share.give_on.Tie as tie
 

@@ -1,6 +1,6 @@
 -- `room_before` meets its contract: the test is that of the sibling before the child. Assumes nothing.
-use Rattle.batch_share.proofs.Shares.{room-sits, room-told}
 use borrow.Author.Needs.{needs}
+use Rattle.batch_share.proofs.Shares.{room-sits, room-told}
 use Rattle.batch_share.proofs.share.room_before.Statement.{statement}
 use Rattle.batch_share.proofs.share.room_before.Tie as tie
 

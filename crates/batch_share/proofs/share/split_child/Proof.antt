@@ -1,8 +1,8 @@
 -- `split_child` meets its contract: each step does to the pool what the model's split of the child does to the family (`Halves`). Assumes nothing.
 use native.Mathlib.Omega.{arith}
+use borrow.Author.Needs.{needs}
 use Rattle.batch_share.proofs.Focuses.{poise-focus, focus-sits, focus-few}
 use Rattle.batch_share.proofs.Halves.{new-in, can-split, upper-weighs, upper-room, lower-renews, half-below, half-left}
-use borrow.Author.Needs.{needs}
 use Rattle.batch_share.proofs.share.split_child.Statement.{statement}
 use Rattle.batch_share.proofs.share.split_child.Tie as tie
 

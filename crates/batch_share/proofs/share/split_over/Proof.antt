@@ -1,8 +1,8 @@
 -- `split_over` meets its contract: a child that fits stays (`fits-rowed`), and one that does not is split (`over-rowed`). Assumes nothing.
 use native.Mathlib.Omega.{arith}
+use borrow.Author.Needs.{needs}
 use Rattle.batch_share.proofs.Focuses.{poise-focus, focus-sits}
 use Rattle.batch_share.proofs.Shares.{fits-rowed, over-rowed}
-use borrow.Author.Needs.{needs}
 use Rattle.batch_share.proofs.share.split_over.Statement.{statement}
 use Rattle.batch_share.proofs.share.split_over.Tie as tie
 

@@ -1,13 +1,13 @@
 -- `child_at` meets its contract: a row names its child's slot. Assumes nothing.
 use mathlib.Core.Path.{sym, ap, _∙_}
 use lib.ListN.{getD}
+use borrow.Author.Needs.{needs}
 use Rattle.words.specs.Words.{words}
 use Rattle.slots_raw.specs.Slots.{blank}
 use Rattle.slots.specs.Nodes.{nodes, nth}
 use Rattle.tree.specs.Bridge.{childOf}
 use Rattle.tree.proofs.SoundHolds.{slot-read}
 use Rattle.batch_share.proofs.Places.{named}
-use borrow.Author.Needs.{needs}
 use Rattle.batch_share.proofs.weigh.child_at.Statement.{statement}
 use Rattle.batch_share.proofs.weigh.child_at.Tie as tie
 

@@ -1,11 +1,11 @@
 -- `renew` meets its contract: the row that is written is the one that was worked out. Assumes nothing.
 use mathlib.Core.Path.{ap}
 use lib.ListN.{set}
+use borrow.Author.Needs.{needs}
 use Rattle.words.specs.Words.{words}
 use Rattle.slots_raw.specs.declared.Row.{Row}
 use Rattle.slots.specs.Nodes.{nodes, nth, putRows}
 use Rattle.slots.proofs.Nodes.{become}
-use borrow.Author.Needs.{needs}
 use Rattle.batch_share.proofs.weigh.renew.Statement.{statement}
 use Rattle.batch_share.proofs.weigh.renew.Tie as tie
 

@@ -1,9 +1,9 @@
 -- `renew_two` meets its contract: the second row is made new where the first was. Assumes nothing.
 use native.Mathlib.Omega.{arith}
+use borrow.Author.Needs.{needs}
 use Rattle.words.specs.Words.{words}
 use Rattle.slots.proofs.Nodes.{fits-node}
 use Rattle.batch_share.proofs.Parents.{renews-second, renewed-both}
-use borrow.Author.Needs.{needs}
 use Rattle.batch_share.proofs.weigh.renew_two.Statement.{statement}
 use Rattle.batch_share.proofs.weigh.renew_two.Tie as tie
 
