@@ -16,7 +16,7 @@ use Rattle.frame_text.specs.Answers.{lengthTold}
 use Rattle.index.specs.declared.OpenAnswer.{OpenAnswer}
 use Rattle.index.proofs.Unique.{where-unique, one-opening, one-totals, one-batch, one-get, one-scan, one-frame}
 use Rattle.index_c_told.specs.Told.{codeOf, totalNumbers, countNumbers, listedNumbers, scannedNumbers, Fields, frameFields}
-use Rattle.index_c.specs.Calls.{OpenCall, TotalsCall, BatchCall, GetCall, ScanCall, FrameCall, WriteCall, ReadCall}
+use Rattle.index_c.specs.Calls.{Kept, OpenCall, TotalsCall, BatchCall, GetCall, ScanCall, FrameCall, WriteCall, ReadCall}
 use Rattle.index_c_told.proofs.Reported.{one-report}
 
 pub one-pool-len : (st : Settings) (r q : ℕ) → Where (InLimits st) (poolLen st) 0 r → Where (InLimits st) (poolLen st) 0 q → r ≡ q
@@ -30,32 +30,29 @@ pub one-totals-call : (l b b′ b″ : List ℕ) (r q : ℕ) → TotalsCall l b 
 one-totals-call l b b′ b″ r q x y =
     one-report totalNumbers _ _ b b′ b″ r q (ap totalled (one-totals l (x .0) (y .0) (x .1 .0) (y .1 .0))) (x .1 .1) (y .1 .1)
 
+-- a promise that leaves one answer and one state of the lent bytes, kept by what is reported
+one-kept : {R A B : Type 0} {P Q : R → Type 0} {k m : List ℕ} (told : R → Answer A) (f : A → B) (b b′ b″ : B) (r q : ℕ)
+    → ((a c : R) → P a → Q c → (a ≡ c) × (k ≡ m)) → Kept P told f b r b′ → Kept Q told f b q b″ → ((r ≡ q) × (b′ ≡ b″)) × (k ≡ m)
+one-kept told f b b′ b″ r q one x y =
+    let u = one (x .0) (y .0) (x .1 .0) (y .1 .0) in
+    (one-report f _ _ b b′ b″ r q (ap told (u .0)) (x .1 .1) (y .1 .1), u .1)
+
 pub one-batch-call : (c : Call) (l k m b b′ b″ : List ℕ) (r q : ℕ) → BatchCall c l b r k b′ → BatchCall c l b q m b″ → ((r ≡ q) × (b′ ≡ b″)) × (k ≡ m)
-one-batch-call c l k m b b′ b″ r q x y =
-    let u = one-batch c l k m (x .0) (y .0) (x .1 .0) (y .1 .0) in
-    (one-report countNumbers _ _ b b′ b″ r q (ap batched (u .0)) (x .1 .1) (y .1 .1), u .1)
+one-batch-call c l k m b b′ b″ r q = one-kept batched countNumbers b b′ b″ r q (one-batch c l k m)
 
 pub one-get-call : (l ks out k m b b′ b″ : List ℕ) (r q : ℕ) → GetCall l ks out b r k b′ → GetCall l ks out b q m b″ → ((r ≡ q) × (b′ ≡ b″)) × (k ≡ m)
-one-get-call l ks out k m b b′ b″ r q x y =
-    let u = one-get l ks out k m (x .0) (y .0) (x .1 .0) (y .1 .0) in
-    (one-report listedNumbers _ _ b b′ b″ r q (ap got (u .0)) (x .1 .1) (y .1 .1), u .1)
+one-get-call l ks out k m b b′ b″ r q = one-kept got listedNumbers b b′ b″ r q (one-get l ks out k m)
 
 pub one-scan-call : (l : List ℕ) (p : Request) (out k m b b′ b″ : List ℕ) (r q : ℕ) → ScanCall l p out b r k b′ → ScanCall l p out b q m b″
     → ((r ≡ q) × (b′ ≡ b″)) × (k ≡ m)
-one-scan-call l p out k m b b′ b″ r q x y =
-    let u = one-scan l p out k m (x .0) (y .0) (x .1 .0) (y .1 .0) in
-    (one-report scannedNumbers _ _ b b′ b″ r q (ap scanned (u .0)) (x .1 .1) (y .1 .1), u .1)
+one-scan-call l p out k m b b′ b″ r q = one-kept scanned scannedNumbers b b′ b″ r q (one-scan l p out k m)
 
 pub one-frame-call : (l : List ℕ) (i : ℕ) (line k m : List ℕ) (b b′ b″ r q : ℕ) → FrameCall l i line b r k b′ → FrameCall l i line b q m b″
     → ((r ≡ q) × (b′ ≡ b″)) × (k ≡ m)
-one-frame-call l i line k m b b′ b″ r q x y =
-    let u = one-frame l i line k m (x .0) (y .0) (x .1 .0) (y .1 .0) in
-    (one-report (λ n. n) _ _ b b′ b″ r q (ap lengthTold (u .0)) (x .1 .1) (y .1 .1), u .1)
+one-frame-call l i line k m b b′ b″ r q = one-kept lengthTold (λ n. n) b b′ b″ r q (one-frame l i line k m)
 
 pub one-write-call : (f : Frame) (line k m : List ℕ) (b b′ b″ r q : ℕ) → WriteCall f line b r k b′ → WriteCall f line b q m b″ → ((r ≡ q) × (b′ ≡ b″)) × (k ≡ m)
-one-write-call f line k m b b′ b″ r q x y =
-    let u = one-written (writeFrame (length line) f) line k m (x .0) (y .0) (x .1 .0) (y .1 .0) in
-    (one-report (λ n. n) _ _ b b′ b″ r q (ap lengthTold (u .0)) (x .1 .1) (y .1 .1), u .1)
+one-write-call f line k m b b′ b″ r q = one-kept lengthTold (λ n. n) b b′ b″ r q (one-written (writeFrame (length line) f) line k m)
 
 pub one-read-call : (a : Answer Frame) (b b′ b″ : Fields) (r q : ℕ) → ReadCall a b r b′ → ReadCall a b q b″ → (r ≡ q) × (b′ ≡ b″)
 one-read-call a b b′ b″ r q x y = one-report frameFields a a b b′ b″ r q refl x y

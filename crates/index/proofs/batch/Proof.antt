@@ -3,6 +3,7 @@
 use borrow.Author.Needs.{needs}
 use borrow.Author.Tests.{not-false}
 use Rattle.model.specs.Refuse.{Call}
+use Rattle.model.specs.Demands.{Lent}
 use Rattle.index.proofs.Lends.{lends}
 use Rattle.index.proofs.Keeps.{unsound, has-header, narrow}
 use Rattle.index.proofs.Batched.{batch-unsound, refused-by, accepted-by, done-by}
@@ -32,16 +33,22 @@ returns-2 c =
     refused-by (called start) _ _ (checked .before .before .survey .ensures) (not-false _ (checked .if1 .left)) _ (c .before .before .settings .ensures) _
     (c .if2 .taken) (c .before .batch-refusal .ensures)
 
+-- what it lends are numbers of their types
+lent : (fits : tie.After-operation-fits)
+    → let known = fits .before .before .before .before .before .before .before .before .before in
+    Lent (called (known .before .before .before .before))
+lent fits =
+    let known = fits .before .before .before .before .before .before .before .before .before in
+    lends (called (known .before .before .before .before)) (fits .operation-fits .ensures) (λ i. known .before .shared-slice-known2 .given i .fits)
+    (λ i. known .shared-slice-known3 .given i .fits) (λ i. known .before .before .shared-slice-known .given i .fits)
+
 batch-requires : tie.Need-batch-requires
 batch-requires c κs =
-    let asked = c .before .before .before in
+    let fits = c .before in
+    let asked = fits .before .before in
     let checked = asked .before .before .before in
-    let known = checked .before .before .before .before in
-    let call = called (known .before .before .before .before) in
-    let lent = lends call (c .before .operation-fits .ensures) (λ i. known .before .shared-slice-known2 .given i .fits)
-    (λ i. known .shared-slice-known3 .given i .fits) (λ i. known .before .before .shared-slice-known .given i .fits) in
-    accepted-by call _ _ (checked .before .before .survey .ensures) (not-false _ (checked .if1 .left)) _ (asked .before .settings .ensures) lent _
-    (c .before .before .if2 .left) (asked .batch-refusal .ensures)
+    accepted-by _ _ _ (checked .before .before .survey .ensures) (not-false _ (checked .if1 .left)) _ (asked .before .settings .ensures) (lent fits) _
+    (fits .before .if2 .left) (asked .batch-refusal .ensures)
 
 returns-3 : tie.Need-returns-3
 returns-3 c =
@@ -49,11 +56,7 @@ returns-3 c =
     let fits = done .before .before in
     let asked = fits .before .before in
     let checked = asked .before .before .before in
-    let known = checked .before .before .before .before in
-    let call = called (known .before .before .before .before) in
-    let lent = lends call (fits .operation-fits .ensures) (λ i. known .before .shared-slice-known2 .given i .fits)
-    (λ i. known .shared-slice-known3 .given i .fits) (λ i. known .before .before .shared-slice-known .given i .fits) in
-    done-by call _ _ (checked .before .before .survey .ensures) (not-false _ (checked .if1 .left)) _ (asked .before .settings .ensures) lent _
+    done-by _ _ _ (checked .before .before .survey .ensures) (not-false _ (checked .if1 .left)) _ (asked .before .settings .ensures) (lent fits) _
     (fits .before .if2 .left) (asked .batch-refusal .ensures) _ (done .batch .last .0) (done .batch .ensures) (done .batch .kept .0)
     (λ i. c .slice-known2 .given i .fits)
 

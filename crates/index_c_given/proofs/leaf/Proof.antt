@@ -1,7 +1,7 @@
 -- `leaf` meets its contract. The loop's invariant: what is left to put makes the entries those of the 32 places. Assumes nothing.
-use Prim.Native.Nat.{_-_, _≤_}
-use native.Mathlib.Omega.{arith}
 use mathlib.Core.List.{List}
+use Prim.Native.Nat.{ℕ, _-_, _≤_}
+use native.Mathlib.Omega.{arith}
 use lib.ListN.{replicate, length-replicate}
 use borrow.Author.Needs.{needs}
 use Rattle.frame_text.specs.declared.Kind.the-variants.{Leaf}
@@ -17,28 +17,27 @@ Inv-loop count keys places sizes entries₀ i₀ entries i = (i ≤ 32) × Filli
 abbrev μ-loop : tie.MeasureT-loop
 μ-loop count keys places sizes entries₀ i₀ entries i = 32 - i
 
+-- the entry of each place
+abbrev at : tie.Start Inv-loop μ-loop → ℕ → FrameEntry
+at s = leafAt (s .args .keys .now) (s .args .places .now) (s .args .sizes .now)
+
 loop-holds : tie.Need-loop-holds Inv-loop μ-loop
 loop-holds c =
-    let a = c .before .args in
-    let at = leafAt (a .keys .now) (a .places .now) (a .sizes .now) in
     let none : List FrameEntry = replicate 32 (c .leaf-entry .result) in
-    (omega arith, fill-start at 32 none (length-replicate 32 (c .leaf-entry .result)))
+    (omega arith, fill-start (at (c .before)) 32 none (length-replicate 32 (c .leaf-entry .result)))
 
 loop-again : tie.Need-loop-again Inv-loop μ-loop
 loop-again c =
     let tested = c .before .before .before .before in
-    let a = tested .before .before .before .args in
-    let at = leafAt (a .keys .now) (a .places .now) (a .sizes .now) in
     let h = tested .before .loop in
-    (omega arith, fill-turn at 32 (h .entries) (h .i) _ (tested .loop-test .taken) (c .leaf-entry2 .ensures) (h .inv .1))
+    (omega arith, fill-turn (at (tested .before .before .before)) 32 (h .entries) (h .i) _ (tested .loop-test .taken) (c .leaf-entry2 .ensures) (h .inv .1))
 
 returns : tie.Need-returns Inv-loop μ-loop
 returns c =
-    let a = c .before .before .before .args in
-    let at = leafAt (a .keys .now) (a .places .now) (a .sizes .now) in
+    let start = c .before .before .before in
     let h = c .before .loop in
-    let entries = fill-end at 32 (h .entries) (h .i) (c .loop-test .left) (h .inv .1) in
-    λ j. record { kind = Leaf; count = a .count; entries = entries j }
+    let entries = fill-end (at start) 32 (h .entries) (h .i) (c .loop-test .left) (h .inv .1) in
+    λ j. record { kind = Leaf; count = start .args .count; entries = entries j }
 
 pub leaf-spec : {M : Type 1} → statement M
 leaf-spec =

@@ -1,9 +1,9 @@
 -- `descends` meets its contract. The loop's invariant: all keys descend just if those from the one before this one on do. Assumes nothing.
-use borrow.Author.Needs.{needs}
-use native.Mathlib.Omega.{arith}
-use Prim.Native.Nat.{_-_, _≤_}
 use mathlib.Core.Path.{_≡_, refl, sym, _∙_}
+use Prim.Native.Nat.{_-_, _≤_}
+use native.Mathlib.Omega.{arith}
 use lib.ListN.{length, drop}
+use borrow.Author.Needs.{needs}
 use Rattle.model.specs.Refuse.{descend}
 use Rattle.index_refuse.proofs.Refuses.{falls, rises, last}
 use Rattle.index_refuse.proofs.descends.Statement.{statement}

@@ -1,8 +1,8 @@
 -- `needed` meets its contract: a depth below two counts as two (`needed-low`, `needed-high`), and at most 32 keys at a depth of at most 8 fit a word.
 -- Assumes nothing.
 use native.Mathlib.Nat.{mul-le-mul}
-use Rattle.index_refuse.proofs.Refuses.{needed-low, needed-high}
 use borrow.Author.Needs.{needs}
+use Rattle.index_refuse.proofs.Refuses.{needed-low, needed-high}
 use Rattle.index_refuse.proofs.needed.Statement.{statement}
 use Rattle.index_refuse.proofs.needed.Tie as tie
 

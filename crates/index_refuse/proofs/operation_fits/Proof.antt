@@ -1,7 +1,7 @@
 -- `operation_fits` meets its contract: what an operation carries is known in the arm that matches it. Assumes nothing.
 use mathlib.Core.Path.{sym, subst}
-use Rattle.model.specs.Demands.{OperationFits, ActionFits}
 use borrow.Author.Needs.{needs}
+use Rattle.model.specs.Demands.{OperationFits, ActionFits}
 use Rattle.index_refuse.proofs.operation_fits.Statement.{statement}
 use Rattle.index_refuse.proofs.operation_fits.Tie as tie
 
