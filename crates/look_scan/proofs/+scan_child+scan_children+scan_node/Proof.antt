@@ -149,11 +149,14 @@ scan-children-row-at-requires t c κs =
 
 scan-children-scan-child-requires : (t : ℕ) → scan-children-lts.Need-scan-child-requires (children-calls t) (scan-children-at t) scan-children.Post Inv-loop μ-loop
 scan-children-scan-child-requires t c κs =
-    let start = c .before .before .before .before .before .before .before .before .before .before .before in
+    let placed = c .before .before in
+    let looped = placed .before .before .before .before in
+    let counted = looped .before .before in
+    let start = counted .before .before .before in
     let a = start .args in
-    let at = c .before .before .before .before .before .before .loop in
-    let n = c .before .before .before .before .before .before .before .before .count .ensures .is in
-    let place = c .before .before .place-in in
+    let at = looped .loop in
+    let n = counted .count .ensures .is in
+    let place = placed .place-in in
     let row = c .before .row-at in (
       omega (arith, start .pre .0),
       walk-enters (a .st) (words (a .pool .now)) (a .below) (a .s) (a .q) (start .pre .1 .tree) (a .room) _ (at .out) (at .at) (at .j) (at .inv .1 .1)
@@ -162,18 +165,26 @@ scan-children-scan-child-requires t c κs =
     )
 
 scan-children-same-length : (t : ℕ) → scan-children-lts.Need-same-length (children-calls t) (scan-children-at t) scan-children.Post Inv-loop μ-loop
-scan-children-same-length t c = c .before .before .before .before .scan-child .kept .1 .1 .1 .1 .1 .0 ∙ c .before .before .before .before .before .before .before .before .before .before .before .loop .inv .1 .0
+scan-children-same-length t c =
+    let scanned = c .before .before .before .before in
+    let looped = scanned .before .before .before .before .before .before .before in scanned .scan-child .kept .1 .1 .1 .1 .1 .0 ∙ looped .loop .inv .1 .0
 
 scan-children-returns : (t : ℕ) → scan-children-lts.Need-returns (children-calls t) (scan-children-at t) scan-children.Post Inv-loop μ-loop
 scan-children-returns t c =
-    let start = c .before .before .before .before .before .before .before .before .before .before .before .before .before .before .before .before in
+    let scanned = c .before .before .before .before in
+    let chosen = scanned .before .before in
+    let placed = chosen .before in
+    let tested = placed .before .before .before in
+    let looped = tested .before in
+    let counted = looped .before .before in
+    let start = counted .before .before .before in
     let a = start .args in
-    let at = c .before .before .before .before .before .before .before .before .before .before .before .loop in
-    let n = c .before .before .before .before .before .before .before .before .before .before .before .before .before .count .ensures .is in
-    let place = c .before .before .before .before .before .before .before .place-in in
-    let row = c .before .before .before .before .before .before .row-at in
-    let child = c .before .before .before .before .scan-child in
-    let test = c .before .before .before .before .before .before .before .before .before .before .loop-test .taken in
+    let at = looped .loop in
+    let n = counted .count .ensures .is in
+    let place = placed .place-in in
+    let row = chosen .row-at in
+    let child = scanned .scan-child in
+    let test = tested .loop-test .taken in
     walk-is (a .st) (words (a .pool .now)) (a .below) (a .s) (a .q) (a .room) (a .out .now) (a .w) (start .pre .1) (walkAt (child .last .1 .1 .1 .1 .1 .0) (child .result))
     (walk-leaves (a .st) (words (a .pool .now)) (a .below) (a .s) (a .q) (start .pre .1 .tree) (a .room) _ (at .out) (at .at) (at .j) (at .inv .1 .1)
     (place .result) (omega (arith, n, test)) (place .ensures .is ∙ ap (λ (m : ℕ). placeIn (a .q .direction) m (at .j)) n) (omega (arith, n, place .ensures .inside)) (row .result) (row .ensures)
@@ -181,14 +192,20 @@ scan-children-returns t c =
 
 scan-children-loop-again : (t : ℕ) → scan-children-lts.Need-loop-again (children-calls t) (scan-children-at t) scan-children.Post Inv-loop μ-loop
 scan-children-loop-again t c =
-    let start = c .before .before .before .before .before .before .before .before .before .before .before .before .before .before .before .before in
+    let scanned = c .before .before .before .before in
+    let chosen = scanned .before .before in
+    let placed = chosen .before in
+    let tested = placed .before .before .before in
+    let looped = tested .before in
+    let counted = looped .before .before in
+    let start = counted .before .before .before in
     let a = start .args in
-    let at = c .before .before .before .before .before .before .before .before .before .before .before .loop in
-    let n = c .before .before .before .before .before .before .before .before .before .before .before .before .before .count .ensures .is in
-    let place = c .before .before .before .before .before .before .before .place-in in
-    let row = c .before .before .before .before .before .before .row-at in
-    let child = c .before .before .before .before .scan-child in
-    let test = c .before .before .before .before .before .before .before .before .before .before .loop-test .taken in (
+    let at = looped .loop in
+    let n = counted .count .ensures .is in
+    let place = placed .place-in in
+    let row = chosen .row-at in
+    let child = scanned .scan-child in
+    let test = tested .loop-test .taken in (
       omega (arith, test),
       (
         child .kept .1 .1 .1 .1 .1 .0 ∙ at .inv .1 .0,
@@ -269,8 +286,8 @@ pub +scan-child+scan-children+scan-node-spec : {M : Type 1} → statement M
     (λ c κs. tt)
     (scan-children-same-length t)
     (scan-children-returns t)
-    (λ c. omega (arith, c .before .before .before .before .before .before .before .before .before .before .loop-test .taken))
-    (λ c. omega (arith, c .before .before .before .before .before .before .before .before .before .before .loop-test .taken))
+    (λ c. let scanned = c .before .before .before .before in omega (arith, scanned .before .before .before .before .before .before .loop-test .taken))
+    (λ c. let scanned = c .before .before .before .before in omega (arith, scanned .before .before .before .before .before .before .loop-test .taken))
     (scan-children-loop-again t)
     (scan-children-same-length-2 t)
     (scan-children-returns-2 t)

@@ -50,17 +50,23 @@ row-at-requires c κs =
     record { held = at .held; slot = at .slot; within = omega (arith, c .place-in .ensures .inside, n) }
 
 list-due-requires : tie.Need-list-due-requires Inv-loop μ-loop
-list-due-requires c κs = (omega (arith, c .before .before .before .before .before .before .before .before .before .before .before .pre .ready .fits, c .before .before .before .before .before .before .loop .inv .1 .0), not-true _ (c .before .before .before .if1 .taken))
+list-due-requires c κs =
+    let looped = c .before .before .before .before .before .before in
+    let start = looped .before .before .before .before .before in (omega (arith, start .pre .ready .fits, looped .loop .inv .1 .0), not-true _ (c .before .before .before .if1 .taken))
 
 loop-again : tie.Need-loop-again Inv-loop μ-loop
 loop-again c =
-    let a = c .before .before .before .before .before .before .before .before .before .before .before .before .before .before .args in
+    let placed = c .before .before .before .before .before in
+    let tested = placed .before .before .before in
+    let looped = tested .before in
+    let counted = looped .before .before in
+    let a = counted .before .before .before .args in
     let rs = rowsAt (a .st) (words (a .pool .now)) (a .s) in
     let q = a .q in
-    let n = c .before .before .before .before .before .before .before .before .before .before .before .count .ensures .is in
-    let at = c .before .before .before .before .before .before .before .before .before .loop in
-    let test = c .before .before .before .before .before .before .before .before .loop-test .taken in
-    let place = c .before .before .before .before .before .place-in in
+    let n = counted .count .ensures .is in
+    let at = looped .loop in
+    let test = tested .loop-test .taken in
+    let place = placed .place-in in
     let listed = c .before .before .list-due in (
       omega (arith, test),
       (

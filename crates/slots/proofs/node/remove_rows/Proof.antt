@@ -33,7 +33,8 @@ raw-clear-requires c κs =
 raw-head-requires : tie.Need-raw-head-requires
 raw-head-requires c κs =
     let cleared = c .before .before .before in
-    (cleared .raw-clear .ensures .shape, cleared .before .before .before .before .before .before .before .before .before .before .before .pre .slot)
+    let moved = cleared .before .before .before .before in
+    (cleared .raw-clear .ensures .shape, moved .before .before .before .before .before .before .before .pre .slot)
 
 pub remove-rows-spec : {M : Type 1} → statement M
 remove-rows-spec =
