@@ -9,7 +9,7 @@ use lib.ListN.{length, take, drop, length-map, length-drop}
 use borrow.Author.Tests.{eqb-true, not-false}
 use Rattle.slots.specs.Nodes.{Held, nodes}
 use Rattle.slots.specs.Nodes as S
-use Rattle.slots.specs.Search.{Lowest}
+use Rattle.slots_find.specs.Search.{Lowest}
 use Rattle.model.specs.declared.Counts.{Counts}
 use Rattle.model.specs.declared.Operation.{Operation}
 use Rattle.model.specs.declared.Operation.the-variants as Op

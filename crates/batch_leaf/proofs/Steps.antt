@@ -11,12 +11,12 @@ use lib.ListN.{length, getD, take, drop, drop-of-length-le}
 use lib.Seq.{drop-cons, set-split}
 use borrow.Author.Tests.{ltb-true, ltb-false, eqb-true, eq-eqb}
 use Rattle.slots_raw.specs.declared.Row.{Row}
-use Rattle.slots.specs.declared.Found.{Found}
-use Rattle.slots.specs.declared.Found.the-variants as F
+use Rattle.slots_find.specs.declared.Found.{Found}
+use Rattle.slots_find.specs.declared.Found.the-variants as F
 use Rattle.slots_raw.specs.Slots.{blank}
 use Rattle.slots.specs.Nodes.{Now, nodes, putRows, rowsAt}
-use Rattle.slots.specs.Search.{keyAt, Ascending, pick, findRow, Sought, Within}
-use Rattle.slots.specs.Search as S
+use Rattle.slots_find.specs.Search.{keyAt, Ascending, pick, findRow, Sought, Within}
+use Rattle.slots_find.specs.Search as S
 use Rattle.slots_raw.proofs.Over.{map-append}
 use Rattle.slots.proofs.Nodes.{become}
 use Rattle.model.specs.declared.Settings.{Settings}

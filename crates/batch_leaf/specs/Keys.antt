@@ -6,8 +6,8 @@ use mathlib.Core.List.{List, [], _∷_, map}
 use lib.ListN.{length, getD, set}
 use lib.Dec.{ltb, leb}
 use Rattle.slots_raw.specs.declared.Row.{Row}
-use Rattle.slots.specs.declared.Found.{Found}
-use Rattle.slots.specs.declared.Found.the-variants as F
+use Rattle.slots_find.specs.declared.Found.{Found}
+use Rattle.slots_find.specs.declared.Found.the-variants as F
 use Rattle.slots_raw.specs.Slots.{blank}
 use Rattle.slots.specs.Nodes.{Now, At, Rows, Room, nodes, rowsAt, putRows, putIn, without}
 use Rattle.model.specs.declared.Settings.{Settings}

@@ -2,7 +2,7 @@
 ghost use mathlib.Core.Path.{_≡_};
 ghost use Rattle.words.specs.Words.{words};
 ghost use Rattle.slots.specs.Nodes.{Now, At, nodes, rowsAt, putRows};
-ghost use Rattle.slots.specs.Search.{Sought};
+ghost use Rattle.slots_find.specs.Search.{Sought};
 ghost use Rattle.batch_leaf.specs.Leaf.{Leaf};
 ghost use Rattle.batch_leaf.specs.Keys.{presenceAt, placeOf, performed, Able, KeyDone};
 use batch_effect::Presence;
@@ -11,7 +11,7 @@ use batch_effect::wide;
 use model::Effect;
 use model::Settings;
 use model::Wish;
-use slots::Found;
+use slots_find::Found;
 use slots_raw::Row;
 
 // Does to leaf `s` what is asked of one key. Its answer is what was done.
@@ -19,7 +19,7 @@ pub fn change_key(pool: &mut [u8], st: Settings, s: usize, key: u64, wish: Wish)
     requires { ⌜ Leaf st (words (now pool)) s ⌝ }
     ensures { λ r. ⌜ KeyDone st (words (now (pool .entry))) (words (now (pool .exit))) s (record { key = key; wish = wish }) r ⌝ }
 {
-    let found = slots::search(pool, st, s, key);
+    let found = slots_find::search(pool, st, s, key);
     let p = presence_at(pool, st, s, key, found);
     let effect = decide(wish, p);
     let i = place_of(found);

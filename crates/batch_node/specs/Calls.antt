@@ -5,7 +5,7 @@ use mathlib.Core.List.{List}
 use lib.ListN.{length, take, drop}
 use Rattle.slots.specs.Nodes.{Held, nodes}
 use Rattle.slots.specs.Nodes as S
-use Rattle.slots.specs.Search.{Lowest}
+use Rattle.slots_find.specs.Search.{Lowest}
 use Rattle.model.specs.declared.Settings.{Settings}
 use Rattle.model.specs.declared.Counts.{Counts}
 use Rattle.model.specs.declared.Operation.{Operation}

@@ -10,10 +10,10 @@ use lib.Seq.{getD-set-other}
 use Rattle.slots_raw.specs.declared.Row.{Row}
 use Rattle.slots.specs.Nodes.{nth, unused, withRows, splitNodes}
 use Rattle.slots.specs.Nodes as S
-use Rattle.slots.specs.Search.{Below, Lowest}
+use Rattle.slots_find.specs.Search.{Below, Lowest}
 use Rattle.slots.proofs.Nodes.{nth-same}
 use Rattle.slots_raw.proofs.Over.{map-take, map-drop}
-use Rattle.slots.proofs.Finds.{below-set}
+use Rattle.slots_find.proofs.Finds.{below-set}
 use Rattle.model.specs.Lists.{times, All, none, one}
 use Rattle.model.specs.Tree.{Item, Tree, len, lowest, others}
 use Rattle.model.specs.Share.{half}

@@ -13,10 +13,10 @@ pub fn split_root(pool: &mut [u8], st: Settings, height: usize, low: usize) -> u
     ensures { λ r. ⌜ Halved st (words (now (pool .entry))) (words (now (pool .exit))) height r ⌝ }
 {
     move_root(pool, st, low);
-    let upper = slots::lowest_unused(pool, st, low);
+    let upper = slots_find::lowest_unused(pool, st, low);
     slots_pair::split(pool, st, low, upper);
     crown(pool, st, height, low, upper);
-    slots::lowest_unused(pool, st, upper)
+    slots_find::lowest_unused(pool, st, upper)
 }
 
 // Moves the rows of the root to a new node of its kind, in the lowest unused slot.

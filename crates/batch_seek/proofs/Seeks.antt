@@ -13,7 +13,7 @@ use lib.Seq.{drop-cons}
 use borrow.Author.Tests.{lt-ltb, le-ltb, le-leb, lt-leb}
 use Rattle.slots_raw.specs.declared.Row.{Row}
 use Rattle.slots_raw.specs.Slots.{blank}
-use Rattle.slots.specs.Search.{keyAt}
+use Rattle.slots_find.specs.Search.{keyAt}
 use Rattle.model.specs.declared.Settings.{Settings}
 use Rattle.model.specs.Tree.{Tree, greatestKey}
 use Rattle.model.specs.declared.ChangeResult.the-variants.{Changed, Absorb, Split}

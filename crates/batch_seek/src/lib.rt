@@ -41,7 +41,7 @@ pub fn seek_child(pool: &[u8], st: Settings, s: usize, from: usize, key: u64) ->
     let n = slots::count(pool, st, s);
     let mut i = from;
     while i + 1 < n {
-        let separator = slots::key_at(pool, st, s, i);
+        let separator = slots_find::key_at(pool, st, s, i);
         if key <= separator {
             return i;
         }

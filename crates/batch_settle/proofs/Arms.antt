@@ -8,7 +8,7 @@ use lib.ListN.{length, take, set, length-map, length-take, length-reverseAux}
 use Rattle.slots_raw.specs.declared.Row.{Row}
 use Rattle.slots.specs.Nodes.{nodes, nth, unused, putRows, Now}
 use Rattle.slots.specs.Nodes as S
-use Rattle.slots.specs.Search.{Lowest}
+use Rattle.slots_find.specs.Search.{Lowest}
 use Rattle.slots.proofs.Nodes.{length-nodes, nth-rows, nth-put}
 use Rattle.model.specs.declared.Settings.{Settings}
 use Rattle.model.specs.Lists.{one, hit}

@@ -1,16 +1,14 @@
 // What becomes of a changed child: its parent's row is made new, and the child is shared out, joined or taken out.
 ghost use Rattle.words.specs.Words.{words};
 ghost use Rattle.batch_share.specs.Settle.{Pending, Done};
-use crate::join::absorb;
-use crate::join::take_out;
+use batch_join::absorb;
+use batch_join::take_out;
 use batch_share::Standing;
 use batch_share::share_out;
 use batch_share::weigh::child_at;
 use batch_share::weigh::renew;
 use model::ChangeResult;
 use model::Settings;
-
-mod join; // a short child is joined with a sibling, an empty one taken out
 
 // Settles the result `v` of child `i` of node `s`, whose children have height `below`. (The Rust's `process_interior_change_result`.)
 pub fn settle_child(

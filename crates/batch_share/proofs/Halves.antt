@@ -10,7 +10,7 @@ use lib.Seq.{getD-set-other}
 use Rattle.slots_raw.specs.declared.Row as R
 use Rattle.slots.specs.Nodes.{nodes, nth, rowsAt, unused, putRows, putIn, put2, withRows, lower, splitNodes, Room, Now}
 use Rattle.slots.specs.Nodes as S
-use Rattle.slots.specs.Search.{Below, Lowest}
+use Rattle.slots_find.specs.Search.{Below, Lowest}
 use Rattle.slots.proofs.Nodes.{length-nodes}
 use Rattle.slots_raw.proofs.Over.{map-take, map-drop}
 use Rattle.slots.proofs.Pads.{length-putIn}

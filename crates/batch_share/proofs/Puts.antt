@@ -9,7 +9,7 @@ use lib.ListN.{length, set, length-set}
 use lib.Seq.{getD-set-other, set-out}
 use Rattle.slots.specs.Nodes.{nodes, nth, unused, put2}
 use Rattle.slots.specs.Nodes as S
-use Rattle.slots.specs.Search.{Below, Lowest}
+use Rattle.slots_find.specs.Search.{Below, Lowest}
 use Rattle.slots.proofs.Nodes.{nth-same, length-nodes}
 use Rattle.model.specs.declared.Settings.{Settings}
 use Rattle.model.specs.Lists.{times}

@@ -10,7 +10,7 @@ use lib.Dec.{ltb}
 use lib.ListN.{length, length-reverseAux}
 use borrow.Author.Tests.{lt-ltb, le-ltb, le-leb, lt-leb, not-true, not-false}
 use Rattle.slots.specs.Nodes.{nodes, rowsAt}
-use Rattle.slots.specs.Search.{Lowest}
+use Rattle.slots_find.specs.Search.{Lowest}
 use Rattle.model.specs.declared.Settings.{Settings}
 use Rattle.model.specs.Lists.{one}
 use Rattle.model.specs.Tree.{Node, Tree, len, lowest, others}

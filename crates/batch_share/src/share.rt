@@ -89,7 +89,7 @@ fn split_child(pool: &mut [u8], st: Settings, below: usize, s: usize, i: usize, 
     let row = weigh(pool, st, below, low);
     slots::insert_row(pool, st, s, i + 1, row);
     renew(pool, st, below, s, i, c);
-    slots::lowest_unused(pool, st, low + 1)
+    slots_find::lowest_unused(pool, st, low + 1)
 }
 
 // Child `i + 1` hands its first rows to child `i`. (The Rust's `steal_children_from_start`.)

@@ -54,7 +54,7 @@ fn last_key(pool: &[u8], st: Settings, c: usize) -> u64
     if n == 0 {
         return 0;
     }
-    slots::key_at(pool, st, c, n - 1)
+    slots_find::key_at(pool, st, c, n - 1)
 }
 
 // The slot of child `i` of node `s`.

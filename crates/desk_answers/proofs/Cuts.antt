@@ -18,7 +18,7 @@ use Rattle.desk_orders.specs.Orders.{Wanted, set, drops, dump, malformed, order
 use Rattle.desk_lines.proofs.Finds.{up-to-take, up-to-length}
 use Rattle.desk_lines.proofs.Keeps.{keeps-the-parts, cut-anyhow}
 use Rattle.tree.specs.Pool.{settingsIn, indexOf, imageOf}
-use Rattle.index.specs.Promise.{holds, fails}
+use Rattle.index_promise.specs.Promise.{holds, fails}
 use Rattle.desk_answers.specs.Replies.{Reply, refusing, reply}
 use Rattle.desk_answers.specs.Promise.{opened, Outcome, outcome, Replies, Answers, Session, rest, next}
 use Rattle.desk_answers.specs.Turns.{Turned, Turns, goes-on, ends, Serves, over, last, read, turn, ServesAnyText, OneTurn}

@@ -19,7 +19,7 @@ use Rattle.model.proofs.Lists.{parts-append}
 use Rattle.tree.specs.Pool.{SoundPool, indexOf}
 use Rattle.frame_text.specs.declared.WriteAnswer.{WriteAnswer}
 use Rattle.frame_text.specs.declared.WriteAnswer.the-variants as Write
-use Rattle.index.specs.Promise.{holds, fails, Left, _leaving_, leaves, Frames}
+use Rattle.index_promise.specs.Promise.{holds, fails, Left, _leaving_, leaves, Frames}
 use Rattle.desk_text.specs.Texts.{over, refusedText}
 use Rattle.desk_text.proofs.Overs.{Put, behind, put-length, over-first}
 use Rattle.desk_orders.specs.Orders.{dump}

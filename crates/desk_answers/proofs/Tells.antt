@@ -14,9 +14,9 @@ use Rattle.model.specs.Answer.{Answer, refused, done}
 use Rattle.model.specs.Refuse.{Call, answer}
 use Rattle.model.proofs.Answers.{refused-done}
 use Rattle.tree.specs.Pool.{settingsIn, indexOf, imageOf}
-use Rattle.index.specs.declared.BatchAnswer.{BatchAnswer}
-use Rattle.index.specs.declared.BatchAnswer.the-variants as Batch
-use Rattle.index.specs.Promise.{holds, fails, Left, _leaving_, leaves, Batches}
+use Rattle.index_promise.specs.declared.BatchAnswer.{BatchAnswer}
+use Rattle.index_promise.specs.declared.BatchAnswer.the-variants as Batch
+use Rattle.index_promise.specs.Promise.{holds, fails, Left, _leaving_, leaves, Batches}
 use Rattle.desk_text.specs.Texts.{over, doneText, refusedText}
 use Rattle.desk_text.proofs.Overs.{over-first}
 use Rattle.desk_orders.specs.declared.Reading.{Reading}

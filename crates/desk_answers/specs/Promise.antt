@@ -8,7 +8,7 @@ use Rattle.model.specs.Tree.{newIndex}
 use Rattle.model.specs.Refuse.{Call}
 use Rattle.model.specs.Refuse as Batch
 use Rattle.tree.specs.Pool.{SoundPool, settingsIn, indexOf, imageOf}
-use Rattle.index.specs.Promise.{Where}
+use Rattle.index_promise.specs.Promise.{Where}
 use Rattle.desk_lines.specs.Lines.{linesOf}
 use Rattle.desk_lines.specs.Parts.{Kept, kept}
 use Rattle.desk_orders.specs.Orders.{Wanted, set, drops, dump, malformed, ordered}

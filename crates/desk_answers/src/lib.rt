@@ -14,7 +14,7 @@ mod part; // the next part of a line
 use desk_orders::Order;
 use desk_orders::Reading;
 use dump::dump;
-use index::BatchAnswer;
+use index_promise::BatchAnswer;
 use model::Operation;
 use model::Settings;
 pub use part::Taken;

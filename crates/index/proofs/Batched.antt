@@ -22,8 +22,8 @@ use Rattle.tree.proofs.Pools.{sound-held, sound-index, sound-header, sound-hold
 use Rattle.survey.specs.declared.Findings.{Findings}
 use Rattle.survey.specs.Surveyed.{Surveyed}
 use Rattle.batch_root.specs.Batch.{indexAt, Accepted, Changed}
-use Rattle.index.specs.declared.BatchAnswer.the-variants as Batch
-use Rattle.index.specs.Promise.{holds, fails, Left, _leaving_, leaves, Batches}
+use Rattle.index_promise.specs.declared.BatchAnswer.the-variants as Batch
+use Rattle.index_promise.specs.Promise.{holds, fails, Left, _leaving_, leaves, Batches}
 use Rattle.index_refuse.specs.Refusals.{Refuses}
 
 module _ (c : Call) (l : List ℕ) where

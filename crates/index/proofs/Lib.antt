@@ -1,8 +1,6 @@
--- `Unique`: a promise leaves one answer. `Opens`: opening. `Keeps`: what keeps the other promises. `Lends` and `Batched`: a batch. `Register`: the third
--- demand, of the calls.
+-- `Unique`: a promise leaves one answer. `Opens`: opening. `Lends` and `Batched`: a batch. `Register`: the third demand, of the calls.
 pub mod Unique
 pub mod Opens
-pub mod Keeps
 pub mod Lends
 pub mod Batched
 pub mod Register

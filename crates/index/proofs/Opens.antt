@@ -7,8 +7,8 @@ use Rattle.model.specs.declared.Settings.{Settings}
 use Rattle.model.specs.Answer.{done, refused}
 use Rattle.model.proofs.Answers.{told-no}
 use Rattle.tree.specs.Opening.{Opened}
-use Rattle.index.specs.declared.OpenAnswer.the-variants as Open
-use Rattle.index.specs.Promise.{holds, fails, _leaving_, Opens}
+use Rattle.index_promise.specs.declared.OpenAnswer.the-variants as Open
+use Rattle.index_promise.specs.Promise.{holds, fails, _leaving_, Opens}
 
 module _ (st : Settings) (l₀ l : List ℕ) (r : Bool) (o : Opened st l₀ r l) where
   pub opened : r ≡ true → Opens st l₀ Open.Done l

@@ -22,9 +22,9 @@ use Rattle.model.proofs.Calls.{new-sound}
 use Rattle.tree.specs.Pool.{SoundPool, settingsIn, indexOf, imageOf}
 use Rattle.tree.proofs.Pools.{sound-index, image-sound, image-index, image-settings}
 use Rattle.look_output.specs.Output.{roomIn}
-use Rattle.index.specs.declared.BatchAnswer.{BatchAnswer}
-use Rattle.index.specs.declared.BatchAnswer.the-variants as Batch
-use Rattle.index.specs.Promise.{Where, holds, fails, Left, _leaving_, leaves, Batches, batched, written, listed}
+use Rattle.index_promise.specs.declared.BatchAnswer.{BatchAnswer}
+use Rattle.index_promise.specs.declared.BatchAnswer.the-variants as Batch
+use Rattle.index_promise.specs.Promise.{Where, holds, fails, Left, _leaving_, leaves, Batches, batched, written, listed}
 use Rattle.index.specs.Register.{AnswersFrom, sweptOf, Turn, Runs, rest, next, plainAfter, plainRun, CountedBy, Counted, Demand3, Swap}
 
 -- WHAT A PROMISE SAYS OF A SOUND POOL

@@ -8,18 +8,18 @@ use Rattle.model.specs.declared.Request.{Request}
 use Rattle.model.specs.Refuse.{Call}
 use Rattle.frame_text.specs.declared.WriteAnswer.{WriteAnswer}
 use Rattle.frame.proofs.Undoes.{told-same}
-use Rattle.index.specs.declared.OpenAnswer.{OpenAnswer}
-use Rattle.index.specs.declared.OpenAnswer.the-variants as Open
-use Rattle.index.specs.declared.TotalsAnswer.{TotalsAnswer}
-use Rattle.index.specs.declared.TotalsAnswer.the-variants as Totalled
-use Rattle.index.specs.declared.BatchAnswer.{BatchAnswer}
-use Rattle.index.specs.declared.BatchAnswer.the-variants as Batch
-use Rattle.index.specs.declared.GetAnswer.{GetAnswer}
-use Rattle.index.specs.declared.GetAnswer.the-variants as Get
-use Rattle.index.specs.declared.ScanAnswer.{ScanAnswer}
-use Rattle.index.specs.declared.ScanAnswer.the-variants as Scan
-use Rattle.index.specs.Promise.{Where, holds, fails, Left, _leaving_, Opens, Totalling, Batches, Gets, Scans, Frames}
-use Rattle.index.specs.Promise.{opening, totalled, batched, got, scanned}
+use Rattle.index_promise.specs.declared.OpenAnswer.{OpenAnswer}
+use Rattle.index_promise.specs.declared.OpenAnswer.the-variants as Open
+use Rattle.index_promise.specs.declared.TotalsAnswer.{TotalsAnswer}
+use Rattle.index_promise.specs.declared.TotalsAnswer.the-variants as Totalled
+use Rattle.index_promise.specs.declared.BatchAnswer.{BatchAnswer}
+use Rattle.index_promise.specs.declared.BatchAnswer.the-variants as Batch
+use Rattle.index_promise.specs.declared.GetAnswer.{GetAnswer}
+use Rattle.index_promise.specs.declared.GetAnswer.the-variants as Get
+use Rattle.index_promise.specs.declared.ScanAnswer.{ScanAnswer}
+use Rattle.index_promise.specs.declared.ScanAnswer.the-variants as Scan
+use Rattle.index_promise.specs.Promise.{Where, holds, fails, Left, _leaving_, Opens, Totalling, Batches, Gets, Scans, Frames}
+use Rattle.index_promise.specs.Promise.{opening, totalled, batched, got, scanned}
 
 pub where-unique : {P : Type 0} {A : Type 0} {a b r s : A} → Where P a b r → Where P a b s → r ≡ s
 where-unique (holds p e) (holds q f) = e ∙ sym f

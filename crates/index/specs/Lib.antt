@@ -1,3 +1,2 @@
--- `Promise` says what each call answers and leaves behind; `Register` what document 01 demands of the calls together.
-pub mod Promise
+-- `Register` says what document 01 demands of the calls together.
 pub mod Register

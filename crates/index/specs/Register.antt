@@ -16,15 +16,15 @@ use Rattle.model.specs.Look.{Listing, listing, found, dueIn}
 use Rattle.model.specs.Refuse.{Call, tasksOf, descend}
 use Rattle.model.specs.Demands.{Lent, Apart}
 use Rattle.tree.specs.Pool.{SoundPool, indexOf}
-use Rattle.index.specs.declared.OpenAnswer.the-variants as Open
-use Rattle.index.specs.declared.TotalsAnswer.{TotalsAnswer}
-use Rattle.index.specs.declared.BatchAnswer.{BatchAnswer}
-use Rattle.index.specs.declared.BatchAnswer.the-variants as Batch
-use Rattle.look_scan.specs.declared.Scanned.{Scanned}
+use Rattle.index_promise.specs.declared.OpenAnswer.the-variants as Open
+use Rattle.index_promise.specs.declared.TotalsAnswer.{TotalsAnswer}
+use Rattle.index_promise.specs.declared.BatchAnswer.{BatchAnswer}
+use Rattle.index_promise.specs.declared.BatchAnswer.the-variants as Batch
+use Rattle.look_output.specs.declared.Scanned.{Scanned}
 use Rattle.look_output.specs.Output.{roomIn}
-use Rattle.index.specs.declared.GetAnswer.{GetAnswer}
-use Rattle.index.specs.declared.ScanAnswer.{ScanAnswer}
-use Rattle.index.specs.Promise.{Left, Opens, Totalling, totalled, Batches, batched, Gets, got, Scans, scanned, listed, written}
+use Rattle.index_promise.specs.declared.GetAnswer.{GetAnswer}
+use Rattle.index_promise.specs.declared.ScanAnswer.{ScanAnswer}
+use Rattle.index_promise.specs.Promise.{Left, Opens, Totalling, totalled, Batches, batched, Gets, got, Scans, scanned, listed, written}
 
 -- A POOL THAT ANSWERS FROM A PLAIN LIST
 

@@ -10,8 +10,8 @@ use Rattle.model.specs.Refuse.{Call}
 use Rattle.model.specs.Frame.{Frame, writeFrame}
 use Rattle.frame_text.specs.declared.WriteAnswer.{WriteAnswer}
 use Rattle.frame_text.specs.Answers.{lengthTold, Writes}
-use Rattle.index.specs.declared.OpenAnswer.{OpenAnswer}
-use Rattle.index.specs.Promise.{Opens, opening, Totalling, totalled, Batches, batched, Gets, got, Scans, scanned, Frames}
+use Rattle.index_promise.specs.declared.OpenAnswer.{OpenAnswer}
+use Rattle.index_promise.specs.Promise.{Opens, opening, Totalling, totalled, Batches, batched, Gets, got, Scans, scanned, Frames}
 use Rattle.index_c_told.specs.Told.{codeOf, Reports, totalNumbers, countNumbers, listedNumbers, scannedNumbers, Fields, frameFields}
 
 -- a promise of an answer is kept by one that is reported, whose values are put by f into a small buffer that was b

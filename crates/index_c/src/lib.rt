@@ -8,7 +8,7 @@ ghost use Rattle.model.specs.Sound.{InLimits};
 ghost use Rattle.tree.specs.Pool.{poolLen};
 ghost use Rattle.look.specs.Calls.{requestFor};
 ghost use Rattle.frame_text.specs.Contents.{frameOf};
-ghost use Rattle.index.specs.Promise.{Where};
+ghost use Rattle.index_promise.specs.Promise.{Where};
 ghost use Rattle.index_c_given.specs.Given.{settingsFor, referenceFor, expectationFor, actionFor, callFor, callEach, boundFor, directionFor, siftFor, leafContents, interiorContents};
 ghost use Rattle.index_c.specs.Calls.{OpenCall, TotalsCall, BatchCall, GetCall, ScanCall, FrameCall, WriteCall, ReadCall};
 use index_c_given::action;

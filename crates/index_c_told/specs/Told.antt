@@ -9,7 +9,7 @@ use Rattle.model.specs.declared.Counts.{Counts}
 use Rattle.model.specs.Answer.{Answer, refused, done}
 use Rattle.model.specs.Frame.{Frame}
 use Rattle.look_output.specs.declared.Listed.{Listed}
-use Rattle.look_scan.specs.declared.Scanned.{Scanned}
+use Rattle.look_output.specs.declared.Scanned.{Scanned}
 use Rattle.frame_text.specs.declared.Kind.{Kind}
 use Rattle.frame_text.specs.declared.Kind.the-variants.{Leaf, Interior}
 use Rattle.frame_text.specs.declared.FrameEntry.{FrameEntry}

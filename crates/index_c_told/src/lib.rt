@@ -1,6 +1,6 @@
 // An answer as C has it: 0 or a number as the result, and what was done in small lent buffers, which a refusal leaves as they were.
 ghost use mathlib.Core.Path.{_≡_};
-ghost use Rattle.index.specs.Promise.{opening, totalled, batched, got, scanned};
+ghost use Rattle.index_promise.specs.Promise.{opening, totalled, batched, got, scanned};
 ghost use Rattle.frame_text.specs.Answers.{lengthTold};
 ghost use Rattle.frame_text.specs.Entries.{headerOf};
 ghost use Rattle.index_c_told.specs.Told.{codeOf, Reports, totalNumbers, countNumbers, listedNumbers, scannedNumbers, contentsTold, fieldsOf, wideOf, narrowOf};
@@ -10,11 +10,11 @@ use frame_text::Kind;
 use frame_text::ReadAnswer;
 use frame_text::Reading;
 use frame_text::WriteAnswer;
-use index::BatchAnswer;
-use index::GetAnswer;
-use index::OpenAnswer;
-use index::ScanAnswer;
-use index::TotalsAnswer;
+use index_promise::BatchAnswer;
+use index_promise::GetAnswer;
+use index_promise::OpenAnswer;
+use index_promise::ScanAnswer;
+use index_promise::TotalsAnswer;
 
 pub fn tell_open(answer: OpenAnswer) -> u32
     ensures { λ r. ⌜ r ≡ codeOf (opening answer) ⌝ }

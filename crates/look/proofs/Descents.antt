@@ -14,13 +14,13 @@ use lib.Seq.{drop-cons}
 use lib.Dec.{ltb, eqb}
 use borrow.Author.Tests.{ltb-true, ltb-false, eqb-true}
 use Rattle.slots_raw.specs.declared.Row.{Row}
-use Rattle.slots.specs.declared.Found.{Found}
-use Rattle.slots.specs.declared.Found.the-variants.{At, Before}
+use Rattle.slots_find.specs.declared.Found.{Found}
+use Rattle.slots_find.specs.declared.Found.the-variants.{At, Before}
 use Rattle.slots_raw.specs.Slots.{blank}
 use Rattle.slots.specs.Nodes.{nodes, rowsAt}
 use Rattle.slots.specs.Nodes as S
-use Rattle.slots.specs.Search.{keyAt, pick, below, findRow, Within, Sought}
-use Rattle.slots.specs.Search as R
+use Rattle.slots_find.specs.Search.{keyAt, pick, below, findRow, Within, Sought}
+use Rattle.slots_find.specs.Search as R
 use Rattle.model.specs.declared.Entry.{Entry}
 use Rattle.model.specs.declared.Settings.{Settings}
 use Rattle.model.specs.Lists.{All, none, one}

@@ -30,7 +30,7 @@ use Rattle.tree.proofs.Few.{used-few, entries-most}
 use Rattle.tree.proofs.Pools.{sound-held, sound-holds-index, sound-index}
 use Rattle.tree.proofs.SoundHolds.{slot-read}
 use Rattle.look_output.specs.declared.Listed.{Listed}
-use Rattle.look_scan.specs.declared.Scanned.{Scanned}
+use Rattle.look_output.specs.declared.Scanned.{Scanned}
 use Rattle.look_output.specs.Output.{roomIn, page, enlistAll, freshPage}
 use Rattle.look_scan.specs.Walk.{Walk, walkAt, visitAll, openingsOf, ToScan}
 use Rattle.look.specs.Lookup.{Grown}

@@ -9,7 +9,7 @@ ghost use Rattle.look_output.specs.Output.{roomIn};
 ghost use Rattle.look.specs.Calls.{InPool, Writes, requestFor};
 use crate::lookup::get_keys;
 use look_output::Listed;
-use look_scan::Scanned;
+use look_output::Scanned;
 use look_scan::scan_node;
 use model::Bound;
 use model::Direction;

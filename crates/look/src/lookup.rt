@@ -6,7 +6,7 @@ ghost use Prim.Native.Nat.{suc, _*_, _≤_, _<_};
 ghost use lib.ListN.{length};
 ghost use Rattle.words.specs.Words.{words};
 ghost use Rattle.slots.specs.Nodes.{nodes, rowsAt};
-ghost use Rattle.slots.specs.Search.{Sorted};
+ghost use Rattle.slots_find.specs.Search.{Sorted};
 ghost use Rattle.model.specs.Tree.{entries};
 ghost use Rattle.model.specs.Plain.{held};
 ghost use Rattle.model.specs.Look.{found, present};
@@ -16,7 +16,7 @@ ghost use Rattle.look.specs.Lookup.{Grown, Leads, Chosen};
 use look_output::Listed;
 use look_output::list_row;
 use model::Settings;
-use slots::Found;
+use slots_find::Found;
 
 // Lists the entries of the keys that are present, key after key, until the output is full and another is due.
 pub fn get_keys(
@@ -60,7 +60,7 @@ fn get_key(
     ensures { λ r. ⌜ page (now (out .exit)) r ≡ enlistAll room (present key (held key (entries (suc height) (treeAt (nodes st (words (now (pool .entry)))) height 0)))) (page (now (out .entry)) l) ⌝ }
 {
     let leaf = leaf_for(pool, st, height, key);
-    let sought = slots::search(pool, st, leaf, key);
+    let sought = slots_find::search(pool, st, leaf, key);
     match sought {
         Found::At(i) => {
             let row = slots::row_at(pool, st, leaf, i);
@@ -93,7 +93,7 @@ fn child_for(pool: &[u8], st: Settings, s: usize, key: u64) -> usize
     ensures { λ r. ⌜ Chosen key (rowsAt st (words (now (pool .entry))) s) r ⌝ }
 {
     let n = slots::count(pool, st, s);
-    let sought = slots::search(pool, st, s, key);
+    let sought = slots_find::search(pool, st, s, key);
     match sought {
         Found::At(i) => i,
         Found::Before(i) => if i < n { i } else { n - 1 },

@@ -15,6 +15,13 @@ pub struct Listed {
     pub more: bool,
 }
 
+// What a scan has listed, and how many nodes it has opened.
+pub struct Scanned {
+    pub written: usize,
+    pub more: bool,
+    pub opened: usize,
+}
+
 // Lists the entry of a leaf's row, if there is room for it.
 pub fn list_row(out: &mut [u8], room: usize, l: Listed, row: Row) -> Listed
     requires { ⌜ 24 * room ≤ length (now out) ⌝ }

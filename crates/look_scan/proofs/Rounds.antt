@@ -16,7 +16,7 @@ use Rattle.model.specs.Tree.{Tree, greatestKey}
 use Rattle.model.specs.declared.Request.{Request}
 use Rattle.model.specs.Look.{entered, openings}
 use Rattle.tree.specs.Bridge.{rowFor, childOf, Holds, treeAt}
-use Rattle.look_scan.specs.declared.Scanned.{Scanned}
+use Rattle.look_output.specs.declared.Scanned.{Scanned}
 use Rattle.model.specs.declared.Request.{Request}
 use Rattle.look_scan.specs.Walk.{enters, goesOn, placeIn, Walk, walkAt, visitAll, openingsOf, ToScan, ToEnter}
 use Rattle.tree.proofs.Children.{child-row, child-held}

@@ -23,7 +23,7 @@ use Rattle.model.specs.Look.{turned, due, untilEnd, reached, entered, openings,
 use Rattle.model.proofs.Lists.{by-test, keep-append}
 use Rattle.tree.specs.Bridge.{entryOf, childOf, treeAt}
 use Rattle.look_output.specs.declared.Listed.{Listed}
-use Rattle.look_scan.specs.declared.Scanned.{Scanned}
+use Rattle.look_output.specs.declared.Scanned.{Scanned}
 use Rattle.look_output.specs.Output.{Page, page, enlistAll}
 use Rattle.look_scan.specs.Walk.{goesOnBy, placeIn, Walk, walkAt, visit, visitAll, openingsOf}
 use Rattle.look_output.proofs.Outputs.{ended, enlist-append, Shows, shows-all}

@@ -17,7 +17,7 @@ use Rattle.model.specs.Tree.{Tree}
 use Rattle.model.specs.declared.Request.{Request}
 use Rattle.model.specs.Look.{starts, ends, least, entered, openings}
 use Rattle.tree.specs.Bridge.{rowFor, childOf, childTotals, Holds, treeAt}
-use Rattle.look_scan.specs.declared.Scanned.{Scanned}
+use Rattle.look_output.specs.declared.Scanned.{Scanned}
 use Rattle.model.specs.declared.Request.{Request}
 use Rattle.look_output.specs.Output.{Page, page, enlistAll}
 

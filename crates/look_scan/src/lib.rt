@@ -16,19 +16,13 @@ use crate::query::is_due;
 use crate::query::is_entered;
 use crate::query::place_in;
 use look_output::Listed;
+use look_output::Scanned;
 use look_output::list_row;
 use model::Request;
 use model::Settings;
 use slots_raw::Row;
 
 pub mod query; // what a scan asks of a row
-
-// What a scan has listed, and how many nodes it has opened.
-pub struct Scanned {
-    pub written: usize,
-    pub more: bool,
-    pub opened: usize,
-}
 
 // Scans the tree of this height in slot `s` (the Rust's `scan`).
 pub fn scan_node(

@@ -1,3 +1,2 @@
--- `Nodes` reads slots as nodes, `Search` looks into nodes.
+-- `Nodes` reads slots as nodes.
 pub mod Nodes
-pub mod Search

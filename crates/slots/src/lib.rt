@@ -1,21 +1,22 @@
-// The nodes of a pool that is in order, and the rows of a node.
+// One node of a pool that is in order (`Held`): each function that changes it leaves a pool in order. So rows past the count are blank again, and a slot
+// that is given up is all zero.
 //
 // A contract is an equation of lists, of the nodes that the slots hold, so it says of every slot of the pool what becomes of it.
-mod node; // one node: read, changed and given up
-mod find; // a key among the rows of a node, and the lowest unused slot
-
-pub use find::key_at;
-pub use find::lowest_unused;
-pub use find::search;
-pub use node::count;
-pub use node::insert_row;
-pub use node::kind;
-pub use node::release;
-pub use node::remove_row;
-pub use node::remove_rows;
-pub use node::row_at;
-pub use node::set_kind;
-pub use node::set_row;
+ghost use mathlib.Core.Path.{_≡_};
+ghost use mathlib.Core.List.{_∷_, []};
+ghost use lib.ListN.{getD, set};
+ghost use Rattle.words.specs.Words.{words};
+ghost use Rattle.slots_raw.specs.Slots.{blank};
+ghost use Rattle.slots.specs.Nodes.{Now, At, Rows, Room, Counted, nodes, nth, rowsAt, putRows, putKind, putIn, without, unused};
+use model::Settings;
+use slots_raw::Row;
+use slots_raw::raw_clear;
+use slots_raw::raw_count;
+use slots_raw::raw_head;
+use slots_raw::raw_kind;
+use slots_raw::raw_move;
+use slots_raw::raw_put;
+use slots_raw::raw_row;
 
 // The kinds of a node: a slot that holds none, a leaf, an interior node.
 pub const UNUSED: u64 = 0;
@@ -24,8 +25,85 @@ pub const LEAF: u64 = 1;
 
 pub const INTERIOR: u64 = 2;
 
-// Where a key stands among the rows of a node, or before which row it would.
-pub enum Found {
-    At(usize),
-    Before(usize),
+// The kind of node `s`.
+pub fn kind(pool: &[u8], st: Settings, s: usize) -> u64
+    requires { ⌜ At st (words (now pool)) s ⌝ }
+    ensures { λ r. ⌜ r ≡ nth (nodes st (words (now (pool .entry)))) s .kind ⌝ }
+{
+    raw_kind(pool, st, s)
+}
+
+// How many rows node `s` has.
+pub fn count(pool: &[u8], st: Settings, s: usize) -> usize
+    requires { ⌜ At st (words (now pool)) s ⌝ }
+    ensures { λ r. ⌜ Counted st (words (now (pool .entry))) s r ⌝ }
+{
+    raw_count(pool, st, s)
+}
+
+// Row `i` of node `s`.
+pub fn row_at(pool: &[u8], st: Settings, s: usize, i: usize) -> Row
+    requires { ⌜ Rows st (words (now pool)) s i 1 ⌝ }
+    ensures { λ r. ⌜ r ≡ getD (rowsAt st (words (now (pool .entry))) s) i blank ⌝ }
+{
+    raw_row(pool, st, s, i)
+}
+
+// Sets the kind of node `s`.
+pub fn set_kind(pool: &mut [u8], st: Settings, s: usize, k: u64)
+    requires { ⌜ At st (words (now pool)) s ⌝ }
+    ensures { λ _. let W = words (now (pool .entry)) in ⌜ Now st W (words (now (pool .exit))) (putKind (nodes st W) s k) ⌝ }
+{
+    let n = count(pool, st, s);
+    raw_head(pool, st, s, k, n);
+}
+
+// Sets row `i` of node `s`.
+pub fn set_row(pool: &mut [u8], st: Settings, s: usize, i: usize, row: Row)
+    requires { ⌜ Rows st (words (now pool)) s i 1 ⌝ }
+    ensures { λ _. let W = words (now (pool .entry)) in ⌜ Now st W (words (now (pool .exit))) (putRows (nodes st W) s (set (rowsAt st W s) i row)) ⌝ }
+{
+    raw_put(pool, st, s, i, row);
+}
+
+// Puts `row` in at place `i` of node `s`.
+pub fn insert_row(pool: &mut [u8], st: Settings, s: usize, i: usize, row: Row)
+    requires { ⌜ Room st (words (now pool)) s i 1 ⌝ }
+    ensures { λ _. let W = words (now (pool .entry)) in ⌜ Now st W (words (now (pool .exit))) (putRows (nodes st W) s (putIn (rowsAt st W s) i (row ∷ []))) ⌝ }
+{
+    let n = count(pool, st, s);
+    let k = kind(pool, st, s);
+    raw_move(pool, st, s, i, s, i + 1, n - i);
+    raw_put(pool, st, s, i, row);
+    raw_head(pool, st, s, k, n + 1);
+}
+
+// Takes row `i` out of node `s`.
+pub fn remove_row(pool: &mut [u8], st: Settings, s: usize, i: usize)
+    requires { ⌜ Rows st (words (now pool)) s i 1 ⌝ }
+    ensures { λ _. let W = words (now (pool .entry)) in ⌜ Now st W (words (now (pool .exit))) (putRows (nodes st W) s (without (rowsAt st W s) i 1)) ⌝ }
+{
+    remove_rows(pool, st, s, i, 1);
+}
+
+// Takes `a` rows out of node `s`, from row `i` on.
+pub fn remove_rows(pool: &mut [u8], st: Settings, s: usize, i: usize, a: usize)
+    requires { ⌜ Rows st (words (now pool)) s i a ⌝ }
+    ensures { λ _. let W = words (now (pool .entry)) in ⌜ Now st W (words (now (pool .exit))) (putRows (nodes st W) s (without (rowsAt st W s) i a)) ⌝ }
+{
+    let n = count(pool, st, s);
+    let k = kind(pool, st, s);
+    raw_move(pool, st, s, i + a, s, i, n - (i + a));
+    raw_clear(pool, st, s, n - a, a);
+    raw_head(pool, st, s, k, n - a);
+}
+
+// Gives up slot `s`: it is unused from now on.
+pub fn release(pool: &mut [u8], st: Settings, s: usize)
+    requires { ⌜ At st (words (now pool)) s ⌝ }
+    ensures { λ _. let W = words (now (pool .entry)) in ⌜ Now st W (words (now (pool .exit))) (set (nodes st W) s unused) ⌝ }
+{
+    let n = count(pool, st, s);
+    remove_rows(pool, st, s, 0, n);
+    set_kind(pool, st, s, UNUSED);
 }

@@ -12,7 +12,7 @@ use borrow.Author.Tests.{lt-ltb, le-ltb, eqb-true, eq-eqb}
 use Rattle.words.specs.Words.{words}
 use Rattle.slots.specs.Nodes.{nth, unused, nodes, rawFor}
 use Rattle.slots.specs.Nodes as S
-use Rattle.slots.specs.Search.{Lowest}
+use Rattle.slots_find.specs.Search.{Lowest}
 use Rattle.slots.proofs.Nodes.{node-raw, length-nodes}
 use Rattle.slots_pool.proofs.Canons.{canon-zero, zero-unused}
 use Rattle.model.specs.declared.Settings.{Settings}

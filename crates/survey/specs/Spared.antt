@@ -6,7 +6,7 @@ use mathlib.Core.List.{List}
 use lib.ListN.{length}
 use Rattle.slots_raw.specs.Slots.{rawAt}
 use Rattle.slots.specs.Nodes.{nodes, nth, unused, rawFor}
-use Rattle.slots.specs.Search.{Lowest}
+use Rattle.slots_find.specs.Search.{Lowest}
 use Rattle.model.specs.declared.Settings.{Settings}
 use Rattle.model.specs.Answer.{Tells}
 use Rattle.tree.specs.Bridge.{unusedOf}

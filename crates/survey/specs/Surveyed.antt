@@ -5,7 +5,7 @@ use mathlib.Core.Bool.{true, false}
 use mathlib.Core.List.{List}
 use lib.ListN.{length, getD}
 use Rattle.words.specs.Words.{words}
-use Rattle.slots.specs.Search.{Lowest}
+use Rattle.slots_find.specs.Search.{Lowest}
 use Rattle.model.specs.Answer.{Tells}
 use Rattle.model.specs.Sound.{InLimits}
 use Rattle.tree.specs.Pool.{poolLen, settingsIn, nodesIn, indexOf, SoundPool}

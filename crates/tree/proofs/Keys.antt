@@ -7,9 +7,9 @@ use Prim.Native.Nat.{ℕ, zero, suc, _<_}
 use lib.Dec.{ltb}
 use lib.ListN.{drop}
 use Rattle.slots_raw.specs.declared.Row.{Row}
-use Rattle.slots.specs.Search.{Ascending, pick}
-use Rattle.slots.specs.Search as S
-use Rattle.slots.proofs.Finds.{ordered-rows}
+use Rattle.slots_find.specs.Search.{Ascending, pick}
+use Rattle.slots_find.specs.Search as S
+use Rattle.slots_find.proofs.Finds.{ordered-rows}
 use Rattle.model.specs.Lists.{Ordered}
 use Rattle.model.specs.Tree.{Item, greatestKey}
 use Rattle.model.specs.Plain.{from}

@@ -2,9 +2,9 @@
 //
 // A word is damaged in eight ways, one after the other, and put right again. What is expected follows from the word's role in the layout
 // (docs/POOL.md), by rules that are written down here again and use nothing of the library: see `allows`.
-use index::BatchAnswer;
-use index::OpenAnswer;
-use index::TotalsAnswer;
+use index_promise::BatchAnswer;
+use index_promise::OpenAnswer;
+use index_promise::TotalsAnswer;
 use model::Operation;
 use model::Settings;
 use trial::plus;

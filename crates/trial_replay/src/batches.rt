@@ -4,7 +4,7 @@ use crate::told::Told;
 use crate::told::amiss;
 use crate::told::check;
 use crate::told::checked;
-use index::BatchAnswer;
+use index_promise::BatchAnswer;
 use model::Action;
 use model::Expectation;
 use model::Operation;

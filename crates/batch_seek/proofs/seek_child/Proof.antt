@@ -6,7 +6,7 @@ use native.Mathlib.Omega.{arith}
 use lib.ListN.{length, drop}
 use Rattle.words.specs.Words.{words}
 use Rattle.slots.specs.Nodes.{rowsAt}
-use Rattle.slots.specs.Search.{keyAt}
+use Rattle.slots_find.specs.Search.{keyAt}
 use Rattle.batch_seek.specs.Seek.{skip}
 use Rattle.batch_seek.proofs.Seeks.{skip-stop, skip-on, skip-last}
 use Rattle.batch_seek.proofs.seek_child.Statement.{statement}

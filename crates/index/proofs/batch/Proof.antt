@@ -5,7 +5,7 @@ use borrow.Author.Tests.{not-false}
 use Rattle.model.specs.Refuse.{Call}
 use Rattle.model.specs.Demands.{Lent}
 use Rattle.index.proofs.Lends.{lends}
-use Rattle.index.proofs.Keeps.{unsound, has-header, narrow}
+use Rattle.index_look.proofs.Keeps.{unsound, has-header, narrow}
 use Rattle.index.proofs.Batched.{batch-unsound, refused-by, accepted-by, done-by}
 use Rattle.index.proofs.batch.Statement.{statement}
 use Rattle.index.proofs.batch.Tie as tie

@@ -3,7 +3,7 @@ use mathlib.Core.Path.{ap}
 use mathlib.Core.List.{[], _∷_}
 use Prim.Native.Nat.{ℕ}
 use borrow.Author.Needs.{needs}
-use Rattle.index.specs.Promise.{got}
+use Rattle.index_promise.specs.Promise.{got}
 use Rattle.index_c_told.specs.Told.{listedNumbers}
 use Rattle.index_c_told.proofs.Reported.{reports-done, flag-byte}
 use Rattle.index_c_told.proofs.tell_get.Statement.{statement}

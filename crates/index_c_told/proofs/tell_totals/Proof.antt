@@ -1,7 +1,7 @@
 -- `tell_totals` meets its contract: the values that were done are the numbers that are told, and a refusal's number is told alone. Assumes nothing.
 use mathlib.Core.Path.{refl, ap}
 use borrow.Author.Needs.{needs}
-use Rattle.index.specs.Promise.{totalled}
+use Rattle.index_promise.specs.Promise.{totalled}
 use Rattle.index_c_told.specs.Told.{totalNumbers}
 use Rattle.index_c_told.proofs.Reported.{reports-done}
 use Rattle.index_c_told.proofs.tell_totals.Statement.{statement}

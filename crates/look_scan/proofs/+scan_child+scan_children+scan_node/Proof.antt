@@ -150,17 +150,19 @@ scan-children-row-at-requires t c κs =
 scan-children-scan-child-requires : (t : ℕ) → scan-children-lts.Need-scan-child-requires (children-calls t) (scan-children-at t) scan-children.Post Inv-loop μ-loop
 scan-children-scan-child-requires t c κs =
     let placed = c .before .before in
-    let looped = placed .before .before .before .before in
+    let tested = placed .before .before .before in
+    let looped = tested .before in
     let counted = looped .before .before in
     let start = counted .before .before .before in
     let a = start .args in
     let at = looped .loop in
     let n = counted .count .ensures .is in
+    let test = tested .loop-test .taken in
     let place = placed .place-in in
     let row = c .before .row-at in (
       omega (arith, start .pre .0),
       walk-enters (a .st) (words (a .pool .now)) (a .below) (a .s) (a .q) (start .pre .1 .tree) (a .room) _ (at .out) (at .at) (at .j) (at .inv .1 .1)
-          (place .result) (omega (arith, n)) (place .ensures .is ∙ ap (λ (m : ℕ). placeIn (a .q .direction) m (at .j)) n) (omega (arith, n, place .ensures .inside)) (row .result) (row .ensures)
+          (place .result) (omega (arith, n, test)) (place .ensures .is ∙ ap (λ (m : ℕ). placeIn (a .q .direction) m (at .j)) n) (omega (arith, n, place .ensures .inside)) (row .result) (row .ensures)
           (omega (arith, start .pre .1 .ready .fits, at .inv .1 .0)) (not-true _ (c .before .before .before .if1 .taken)) (start .pre .1 .held),
     )
 
@@ -286,8 +288,8 @@ pub +scan-child+scan-children+scan-node-spec : {M : Type 1} → statement M
     (λ c κs. tt)
     (scan-children-same-length t)
     (scan-children-returns t)
-    (λ c. let scanned = c .before .before .before .before in omega (arith, scanned .before .before .before .before .before .before .loop-test .taken))
-    (λ c. let scanned = c .before .before .before .before in omega (arith, scanned .before .before .before .before .before .before .loop-test .taken))
+    (λ c. let test = c .before .before .before .before .before .before .before .before .before .before .loop-test .taken in omega (arith, test))
+    (λ c. let test = c .before .before .before .before .before .before .before .before .before .before .loop-test .taken in omega (arith, test))
     (scan-children-loop-again t)
     (scan-children-same-length-2 t)
     (scan-children-returns-2 t)

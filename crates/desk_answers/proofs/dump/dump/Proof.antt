@@ -3,7 +3,7 @@ use Rattle.desk_answers.proofs.Shows.{fits, feed-inside, rest-put, of-t
 use Prim.Native.Nat.{_+_, _-_, _≤_}
 use lib.ListN.{drop}
 use Rattle.frame_text.specs.declared.WriteAnswer.the-variants as Write
-use Rattle.index.specs.Promise.{Frames}
+use Rattle.index_promise.specs.Promise.{Frames}
 use borrow.Author.Needs.{needs}
 use Rattle.desk_answers.proofs.dump.dump.Statement.{statement}
 use Rattle.desk_answers.proofs.dump.dump.Tie as tie

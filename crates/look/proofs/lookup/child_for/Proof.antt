@@ -5,7 +5,7 @@ use native.Mathlib.Omega.{arith}
 use lib.ListN.{length}
 use borrow.Author.Needs.{needs}
 use Rattle.words.specs.Words.{words}
-use Rattle.slots.specs.declared.Found.the-variants.{At, Before}
+use Rattle.slots_find.specs.declared.Found.the-variants.{At, Before}
 use Rattle.slots.specs.Nodes.{rowsAt}
 use Rattle.look.proofs.Descents.{child-in, child-out, found-place, found-inside}
 use Rattle.look.proofs.lookup.child_for.Statement.{statement}

@@ -5,7 +5,7 @@ use native.Mathlib.Omega.{arith}
 use borrow.Author.Needs.{needs}
 use Rattle.words.specs.Words.{words}
 use Rattle.slots_raw.specs.declared.Row.{Row}
-use Rattle.slots.specs.declared.Found.the-variants.{At}
+use Rattle.slots_find.specs.declared.Found.the-variants.{At}
 use Rattle.slots.specs.Nodes.{rowsAt}
 use Rattle.model.specs.declared.Entry.{Entry}
 use Rattle.tree.specs.Bridge.{entryOf}

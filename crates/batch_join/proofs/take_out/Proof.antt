@@ -1,0 +1,37 @@
+-- `take_out` meets its contract: the child's slot is released and its row taken out, and both are what the model leaves (`Outs`). Assumes nothing.
+use borrow.Author.Needs.{needs}
+use Rattle.batch_share.proofs.Focuses.{poise-focus, focus-sits}
+use Rattle.batch_join.proofs.Outs.{child-out, taken-out}
+use Rattle.batch_join.proofs.take_out.Statement.{statement}
+use Rattle.batch_join.proofs.take_out.Tie as tie
+
+child-at-requires : tie.Need-child-at-requires
+child-at-requires c κs = focus-sits (poise-focus (c .before .before .pre .0))
+
+remove-row-requires : tie.Need-remove-row-requires
+remove-row-requires c κs =
+    let freed = c .before .before .before in
+    let child = freed .before .before in
+    let start = child .before .before .before in
+    child-out (poise-focus (start .pre .0)) (start .pre .1) _ (child .child-at .ensures .is) _ (freed .release .ensures)
+
+returns : tie.Need-returns
+returns c =
+    let gone = c .before .before .before .before in
+    let freed = gone .before .before .before .before in
+    let child = freed .before .before in
+    let start = child .before .before .before in
+    taken-out (poise-focus (start .pre .0)) (start .pre .1) _ (child .child-at .ensures .is) _ (freed .release .ensures) _ (gone .remove-row .ensures) _
+    (start .pre .0 .lowest) _ (c .before .one-back .ensures) (c .lesser .ensures)
+
+pub take-out-spec : {M : Type 1} → statement M
+take-out-spec =
+    tie.close
+    (tie.spec
+    child-at-requires
+    (λ c κs. search needs)
+    remove-row-requires
+    (λ c κs. search needs)
+    (λ c κs. search needs)
+    (λ c. search needs)
+    returns)

@@ -1,0 +1,137 @@
+// A child below the minimum is joined with a sibling, and an empty one is taken out.
+ghost use mathlib.Core.Path.{_≡_};
+ghost use mathlib.Core.List.{_∷_, _++_};
+ghost use Prim.Native.Nat.{_+_, _-_, _≤_};
+ghost use Rattle.words.specs.Words.{words};
+ghost use Rattle.slots.specs.Nodes.{Now, nodes};
+ghost use Rattle.slots_find.specs.Search.{Lowest};
+ghost use Rattle.model.specs.Tree.{len, refill, release};
+ghost use Rattle.model.specs.Share.{halved, join, followed};
+ghost use Rattle.model.specs.declared.ChangeResult.the-variants.{Absorb, Remove};
+ghost use Rattle.model.specs.Contracts.{Says};
+ghost use Rattle.tree.specs.Bridge.{unusedOf};
+ghost use Rattle.batch_share.specs.Settle.{Done, childAt, afterAt};
+ghost use Rattle.batch_share.specs.Steps.{Poised, Neighbours, Parted, Rowed, Levels, levelNodes};
+use batch_share::Standing;
+use batch_share::lesser;
+use batch_share::weigh::child_at;
+use batch_share::weigh::child_len;
+use batch_share::weigh::renew;
+use batch_share::weigh::renew_two;
+use model::Settings;
+
+// Joins child `i` of node `s` with the previous sibling, or with the next if it is the first. The walk goes on from the two. (The Rust's
+// `process_absorb`.)
+pub fn absorb(
+    pool: &mut [u8],
+    st: Settings,
+    below: usize,
+    s: usize,
+    i: usize,
+    low: usize,
+) -> Standing
+    requires { ⌜ Poised st (words (now pool)) below s i low 0 ⌝ }
+    requires { ⌜ Says st Absorb (childAt (nodes st (words (now pool))) below s i) ⌝ }
+    ensures { λ r. ⌜ Done st (words (now (pool .entry))) (words (now (pool .exit))) below s i Absorb r ⌝ }
+{
+    if slots::count(pool, st, s) == 1 {
+        return Standing { at: i, low };
+    }
+    let at = one_back(i);
+    let low = join_children(pool, st, below, s, at, low);
+    Standing { at, low }
+}
+
+// Joins children `i` and `i + 1`: in one node if they fit, else the half of their rows in each. (The Rust's `absorb`.)
+fn join_children(
+    pool: &mut [u8],
+    st: Settings,
+    below: usize,
+    s: usize,
+    i: usize,
+    low: usize,
+) -> usize
+    requires { ⌜ Neighbours st (words (now pool)) below s i ⌝ }
+    requires { ⌜ len (childAt (nodes st (words (now pool))) below s i) ≤ st .order ⌝ }
+    requires { ⌜ len (childAt (nodes st (words (now pool))) below s (i + 1)) ≤ st .order ⌝ }
+    requires { ⌜ Lowest (nodes st (words (now pool))) low ⌝ }
+    ensures { λ r. let W = words (now (pool .entry)) in let ns = nodes st W in ⌜ Rowed st W (words (now (pool .exit))) below s i r (followed (join st (childAt ns below s i) (childAt ns below s (i + 1)) (unusedOf ns)) (afterAt ns below s (i + 1))) ⌝ }
+{
+    if child_len(pool, st, below, s, i) + child_len(pool, st, below, s, i + 1) <= st.order {
+        return merge(pool, st, below, s, i, low);
+    }
+    even_out(pool, st, below, s, i);
+    low
+}
+
+// The rows of child `i + 1` go to the end of child `i`, and its slot is unused from now on.
+fn merge(pool: &mut [u8], st: Settings, below: usize, s: usize, i: usize, low: usize) -> usize
+    requires { ⌜ Neighbours st (words (now pool)) below s i ⌝ }
+    requires { ⌜ len (childAt (nodes st (words (now pool))) below s i) + len (childAt (nodes st (words (now pool))) below s (i + 1)) ≤ st .order ⌝ }
+    requires { ⌜ Lowest (nodes st (words (now pool))) low ⌝ }
+    ensures { λ r. let W = words (now (pool .entry)) in let ns = nodes st W in let p = childAt ns below s i in let c = childAt ns below s (i + 1) in ⌜ Rowed st W (words (now (pool .exit))) below s i r (record { nodes = refill p (p .items ++ c .items) ∷ afterAt ns below s (i + 1); unused = release (c .slot) (unusedOf ns) }) ⌝ }
+{
+    let p = child_at(pool, st, below, s, i);
+    let c = child_at(pool, st, below, s, i + 1);
+    slots_pair::join(pool, st, p, c);
+    slots::remove_row(pool, st, s, i + 1);
+    renew(pool, st, below, s, i, p);
+    lesser(low, c)
+}
+
+// Children `i` and `i + 1` share their rows, the lower half of them in child `i`.
+fn even_out(pool: &mut [u8], st: Settings, below: usize, s: usize, i: usize)
+    requires { ⌜ Neighbours st (words (now pool)) below s i ⌝ }
+    requires { ⌜ len (childAt (nodes st (words (now pool))) below s i) ≤ st .order ⌝ }
+    requires { ⌜ len (childAt (nodes st (words (now pool))) below s (i + 1)) ≤ st .order ⌝ }
+    ensures { λ _. let W = words (now (pool .entry)) in let ns = nodes st W in let p = childAt ns below s i in let c = childAt ns below s (i + 1) in ⌜ Parted st W (words (now (pool .exit))) below s i (halved (refill p (p .items ++ c .items)) (c .slot)) ⌝ }
+{
+    let p = child_at(pool, st, below, s, i);
+    let c = child_at(pool, st, below, s, i + 1);
+    level(pool, st, p, c);
+    renew_two(pool, st, below, s, i, p, c);
+}
+
+// Rows go from the longer of the nodes `p` and `c` to the other, until the lower half of them is in `p`.
+fn level(pool: &mut [u8], st: Settings, p: usize, c: usize)
+    requires { ⌜ Levels st (words (now pool)) p c ⌝ }
+    ensures { λ _. let W = words (now (pool .entry)) in ⌜ Now st W (words (now (pool .exit))) (levelNodes (nodes st W) p c) ⌝ }
+{
+    let m = slots::count(pool, st, p);
+    let n = slots::count(pool, st, c);
+    let keep = (m + n + 1) / 2;
+    if m < keep {
+        slots_pair::share_back(pool, st, p, c, keep - m);
+        return;
+    }
+    slots_pair::share_forward(pool, st, p, c, m - keep);
+}
+
+// Takes child `i`, which is empty, out of node `s`. The walk steps back.
+pub fn take_out(
+    pool: &mut [u8],
+    st: Settings,
+    below: usize,
+    s: usize,
+    i: usize,
+    low: usize,
+) -> Standing
+    requires { ⌜ Poised st (words (now pool)) below s i low 0 ⌝ }
+    requires { ⌜ Says st Remove (childAt (nodes st (words (now pool))) below s i) ⌝ }
+    ensures { λ r. ⌜ Done st (words (now (pool .entry))) (words (now (pool .exit))) below s i Remove r ⌝ }
+{
+    let c = child_at(pool, st, below, s, i);
+    slots::release(pool, st, c);
+    slots::remove_row(pool, st, s, i);
+    Standing {
+        at: one_back(i),
+        low: lesser(low, c),
+    }
+}
+
+// The child before child `i`, if there is one.
+fn one_back(i: usize) -> usize
+    ensures { λ r. ⌜ r ≡ i - 1 ⌝ }
+{
+    if i == 0 { 0 } else { i - 1 }
+}

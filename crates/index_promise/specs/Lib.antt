@@ -1,0 +1,2 @@
+-- `Promise` says what each call answers and leaves behind.
+pub mod Promise

@@ -1,0 +1,120 @@
+-- What each call answers, and what it leaves in the bytes that are lent to it: document 01, call by call. Assumes nothing.
+use Prim.Native.Nat.{ℕ}
+use mathlib.Core.Path.{_≡_}
+use mathlib.Core.List.{List, _++_}
+use lib.ListN.{length, drop}
+use Rattle.model.specs.declared.Settings.{Settings}
+use Rattle.model.specs.declared.Totals.{Totals}
+use Rattle.model.specs.declared.Counts.{Counts}
+use Rattle.model.specs.Tree.{totalsOf, newIndex}
+use Rattle.model.specs.Answer.{Answer, refused, done}
+use Rattle.model.specs.declared.Request.{Request}
+use Rattle.model.specs.Look.{Listing, Scanned, scan}
+use Rattle.model.specs.Refuse.{Call, answer, get}
+use Rattle.model.specs.Frame.{writeNode}
+use Rattle.model.specs.Sound.{InLimits}
+use Rattle.tree.specs.Pool.{SoundPool, settingsIn, indexOf, imageOf, poolLen}
+use Rattle.index_promise.specs.declared.OpenAnswer.{OpenAnswer}
+use Rattle.index_promise.specs.declared.OpenAnswer.the-variants as Open
+use Rattle.index_promise.specs.declared.TotalsAnswer.{TotalsAnswer}
+use Rattle.index_promise.specs.declared.TotalsAnswer.the-variants as Totalled
+use Rattle.index_promise.specs.declared.BatchAnswer.{BatchAnswer}
+use Rattle.index_promise.specs.declared.BatchAnswer.the-variants as Batch
+use Rattle.look_output.specs.declared.Listed.{Listed}
+use Rattle.index_promise.specs.declared.GetAnswer.{GetAnswer}
+use Rattle.index_promise.specs.declared.GetAnswer.the-variants as Get
+use Rattle.look_output.specs.declared.Scanned as Told
+use Rattle.look_output.specs.Output.{roomIn, outputOf}
+use Rattle.index_promise.specs.declared.ScanAnswer.{ScanAnswer}
+use Rattle.index_promise.specs.declared.ScanAnswer.the-variants as Scan
+use Rattle.frame_text.specs.declared.WriteAnswer.{WriteAnswer}
+use Rattle.frame_text.specs.Answers.{lengthTold}
+
+-- r is a where P holds, and b where it does not
+pub data Where (P : Type 0) {A : Type 0} (a b r : A) : Type 0 where
+  holds : P → r ≡ a → Where P a b r
+  fails : (P → ⊥) → r ≡ b → Where P a b r
+
+-- an answer, and the lent bytes after it
+pub record Left (A : Type 0) : Type 0 where
+  pub answer : Answer A
+  pub bytes : List ℕ
+
+infixl 4 _leaving_
+abbrev pub _leaving_ : {A : Type 0} → Answer A → List ℕ → Left A
+a leaving l = record { answer = a; bytes = l }
+
+-- a refusal leaves the lent bytes as they were
+abbrev pub leaves : {A B : Type 0} → (A → B) → (A → List ℕ) → List ℕ → Answer A → Left B
+leaves told bytes l (refused n) = refused n leaving l
+leaves told bytes l (done a) = done (told a) leaving bytes a
+
+-- where the pool is not sound
+abbrev pub unsound : {A : Type 0} → List ℕ → Left A
+unsound l = refused 2 leaving l
+
+-- OPENING a pool of the bytes l with the settings st
+
+abbrev pub opening : OpenAnswer → Answer (Unit {0})
+opening Open.Done = done tt
+opening (Open.Refused n) = refused n
+
+abbrev pub Opens : Settings → List ℕ → OpenAnswer → List ℕ → Type 0
+Opens st l r l′ =
+    Where (InLimits st × (length l ≡ poolLen st)) (done tt leaving imageOf st (newIndex (st .nodes))) (refused 1 leaving l) (opening r leaving l′)
+
+-- TOTALS of the pool l
+
+abbrev pub totalled : TotalsAnswer → Answer Totals
+totalled (Totalled.Done t) = done t
+totalled (Totalled.Refused n) = refused n
+
+abbrev pub Totalling : List ℕ → TotalsAnswer → Type 0
+Totalling l r = Where (SoundPool l) (done (totalsOf (indexOf l))) (refused 2) (totalled r)
+
+-- A BATCH c on the pool l
+
+abbrev pub batched : BatchAnswer → Answer Counts
+batched (Batch.Done c) = done c
+batched (Batch.Refused n) = refused n
+
+abbrev pub Batches : Call → List ℕ → BatchAnswer → List ℕ → Type 0
+Batches c l r l′ =
+    Where (SoundPool l) (leaves (λ b. b .counts) (λ b. imageOf (settingsIn l) (b .index)) l (answer (settingsIn l) c (indexOf l)))
+    (unsound l) (batched r leaving l′)
+
+-- GET AND SCAN write the first entries that fit whole, and leave every byte behind them as it was
+
+abbrev pub listed : Listing → Listed
+listed g = record { written = length (g .written); more = g .more }
+
+abbrev pub written : List ℕ → Listing → List ℕ
+written out g = outputOf (g .written) out
+
+abbrev pub got : GetAnswer → Answer Listed
+got (Get.Done g) = done g
+got (Get.Refused n) = refused n
+
+abbrev pub Gets : List ℕ → List ℕ → List ℕ → GetAnswer → List ℕ → Type 0
+Gets l ks out r out′ =
+    Where (SoundPool l) (leaves listed (written out) out (get ks (roomIn out) (indexOf l))) (unsound out) (got r leaving out′)
+
+abbrev pub swept : Scanned → Told.Scanned
+swept s = record { written = length (s .listed .written); more = s .listed .more; opened = s .opened }
+
+abbrev pub scanned : ScanAnswer → Answer Told.Scanned
+scanned (Scan.Done s) = done s
+scanned (Scan.Refused n) = refused n
+
+abbrev pub Scans : List ℕ → Request → List ℕ → ScanAnswer → List ℕ → Type 0
+Scans l q out r out′ =
+    Where (SoundPool l) (leaves swept (λ s. written out (s .listed)) out (done (scan q (roomIn out) (indexOf l)))) (unsound out)
+    (scanned r leaving out′)
+
+-- THE I-TH FRAME of the pool l, written into a line; every byte behind it is as it was. What writing a frame from a kind and entries, and reading one,
+-- promise stands in crate frame_text (specs/Answers): these two are given no pool.
+
+abbrev pub Frames : List ℕ → ℕ → List ℕ → WriteAnswer → List ℕ → Type 0
+Frames l i line r line′ =
+    Where (SoundPool l) (leaves length (λ s. s ++ drop (length s) line) line (writeNode i (length line) (indexOf l))) (unsound line)
+    (lengthTold r leaving line′)

@@ -1,0 +1,31 @@
+// What the calls answer. What each answer means, and what a call leaves in the lent bytes, stands in specs/Promise.
+use look_output::Listed;
+use look_output::Scanned;
+use model::Counts;
+use model::Totals;
+
+// What opening a pool answers.
+pub enum OpenAnswer {
+    Done,
+    Refused(u32),
+}
+
+pub enum TotalsAnswer {
+    Done(Totals),
+    Refused(u32),
+}
+
+pub enum BatchAnswer {
+    Done(Counts),
+    Refused(u32),
+}
+
+pub enum GetAnswer {
+    Done(Listed),
+    Refused(u32),
+}
+
+pub enum ScanAnswer {
+    Done(Scanned),
+    Refused(u32),
+}

@@ -1,0 +1,89 @@
+-- The laws of `specs/Search.antt`: which rows can be searched, how many keys are below a key, what a search finds there, and what keeps the slots
+-- below one in use. Assumes nothing.
+use mathlib.Core.Path.{_≡_, ap}
+use mathlib.Core.Logic.{_≢_}
+use Prim.Native.Nat.{ℕ, zero, suc, _+_, _≤_, _<_}
+use native.Mathlib.Nat.{not-suc-le-zero, le-of-suc-le-suc}
+use native.Mathlib.Decide.{decLt, ℕ-discrete}
+use native.Mathlib.Omega.{arith}
+use mathlib.Core.List.{List, [], _∷_, map}
+use lib.ListN.{length, set}
+use lib.Seq.{set-out, getD-set-same, getD-set-other}
+use borrow.Author.Tests.{lt-ltb, le-ltb, eq-eqb, ne-eqb}
+use Rattle.model.specs.Lists.{All, one, Ordered, cons}
+use Rattle.slots_raw.specs.declared.Row.{Row}
+use Rattle.slots_find.specs.declared.Found.the-variants.{At, Before}
+use Rattle.slots.specs.Nodes.{Node, unused, nth}
+use Rattle.slots_find.specs.Search.{keyAt, Ascending, pick, below, findRow, Below}
+
+-- ---- rows that can be searched
+
+over-at : (k : ℕ) (l : List Row) → All (λ x. k < x) (map (λ r. r .key) l) → (j : ℕ) → j < length l → k < keyAt l j
+over-at k [] o j h = absurd (not-suc-le-zero h)
+over-at k (r ∷ l) (one g gs) zero h = g
+over-at k (r ∷ l) (one g gs) (suc j) h = over-at k l gs j (le-of-suc-le-suc h)
+
+pub ordered-rows : (l : List Row) → Ordered (λ x y. x < y) (map (λ r. r .key) l) → Ascending l
+ordered-rows [] s i j h g = absurd (not-suc-le-zero g)
+ordered-rows (r ∷ l) (cons o s) i zero h g = absurd (not-suc-le-zero h)
+ordered-rows (r ∷ l) (cons o s) zero (suc j) h g = over-at (r .key) l o j (le-of-suc-le-suc g)
+ordered-rows (r ∷ l) (cons o s) (suc i) (suc j) h g = ordered-rows l s i j (le-of-suc-le-suc h) (le-of-suc-le-suc g)
+
+-- ---- how many keys are below k
+
+-- what is before row i is below k, and row i is not: i is the number
+pub below-is : (k : ℕ) (l : List Row) (i : ℕ) → i ≤ length l → ((j : ℕ) → j < i → keyAt l j < k) → (i < length l → k ≤ keyAt l i) → below k l ≡ i
+unfolding below pick
+below-is k [] i h b a = omega arith
+below-is k (r ∷ l) zero h b a = rw (le-ltb (r .key) k (a (omega arith)))
+below-is k (r ∷ l) (suc i) h b a =
+    rw (lt-ltb (r .key) k (b zero (omega arith)))
+    (ap suc (below-is k l i (le-of-suc-le-suc h) (λ j g. b (suc j) (omega arith)) (λ g. a (omega arith))))
+
+up-to : (k : ℕ) (l : List Row) (m : ℕ) → Ascending l → m < length l → keyAt l m < k → (j : ℕ) → j < m + 1 → Dec (j < m) → keyAt l j < k
+up-to k l m asc h g j hj (yes q) = omega (arith, asc j m q h)
+up-to k l m asc h g j hj (no q) =
+    let e : j ≡ m = omega arith in
+    rw e g
+
+-- row m is below k, and so is each before it
+pub all-below : (k : ℕ) (l : List Row) (m : ℕ) → Ascending l → m < length l → keyAt l m < k → (j : ℕ) → j < m + 1 → keyAt l j < k
+all-below k l m asc h g j hj = up-to k l m asc h g j hj (decLt j m)
+
+from-on : (k : ℕ) (l : List Row) (m : ℕ) → Ascending l → k ≤ keyAt l m → (j : ℕ) → m ≤ j → j < length l → Dec (m < j) → k ≤ keyAt l j
+from-on k l m asc g j hm hj (yes q) = omega (arith, asc m j q hj)
+from-on k l m asc g j hm hj (no q) =
+    let e : j ≡ m = omega arith in
+    rw e g
+
+-- row m is not, and so is none after it
+pub none-below : (k : ℕ) (l : List Row) (m : ℕ) → Ascending l → k ≤ keyAt l m → (j : ℕ) → m ≤ j → j < length l → k ≤ keyAt l j
+none-below k l m asc g j hm hj = from-on k l m asc g j hm hj (decLt m j)
+
+-- ---- the answers of a search
+
+pub found-at : (k : ℕ) (l : List Row) (i : ℕ) → below k l ≡ i → i < length l → keyAt l i ≡ k → At i ≡ findRow k l
+unfolding findRow pick
+found-at k l i e h g = rw (e, lt-ltb i (length l) h, eq-eqb (keyAt l i) k g)
+
+pub found-not : (k : ℕ) (l : List Row) (i : ℕ) → below k l ≡ i → i < length l → (keyAt l i ≡ k → ⊥) → Before i ≡ findRow k l
+unfolding findRow pick
+found-not k l i e h g = rw (e, lt-ltb i (length l) h, ne-eqb (keyAt l i) k g)
+
+pub found-end : (k : ℕ) (l : List Row) (i : ℕ) → below k l ≡ i → length l ≤ i → Before i ≡ findRow k l
+unfolding findRow pick
+found-end k l i e h = rw (e, le-ltb i (length l) h)
+
+-- ---- the slots below `from` are in use
+
+set-used : (ns : List Node) (t : ℕ) (n : Node) → nth ns t .kind ≢ 0 → n .kind ≢ 0 → Dec (t < length ns) → nth (set ns t n) t .kind ≢ 0
+set-used ns t n h g (yes q) = rw (getD-set-same ns t n unused q) g
+set-used ns t n h g (no q) = rw (set-out ns t n (omega arith)) h
+
+kept-used : (ns : List Node) (u t : ℕ) (n : Node) → nth ns u .kind ≢ 0 → (t ≡ u → n .kind ≢ 0) → Dec (u ≡ t) → nth (set ns t n) u .kind ≢ 0
+kept-used ns u t n h g (yes q) = rw q (set-used ns t n (rw q at h) (g (omega arith)) (decLt t (length ns)))
+kept-used ns u t n h g (no q) = rw (getD-set-other ns t u n unused q) h
+
+-- and still are where a node is set: if it is one of them, to a node in use
+pub below-set : (ns : List Node) (from t : ℕ) (n : Node) → Below ns from → (t < from → n .kind ≢ 0) → Below (set ns t n) from
+below-set ns from t n b g u h = kept-used ns u t n (b u h) (λ e. g (omega arith)) (ℕ-discrete u t)

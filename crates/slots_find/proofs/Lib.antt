@@ -1,0 +1,2 @@
+-- `Finds` has the laws of the search.
+pub mod Finds

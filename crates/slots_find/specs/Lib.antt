@@ -1,0 +1,2 @@
+-- `Search` looks into nodes.
+pub mod Search
