@@ -180,7 +180,7 @@ module _ {st : Settings} {W₀ : List ℕ} {h₀ : ℕ} {op : Operation} {ps zs 
       abbrev ms : List S.Node
       ms = nodes st W₁
 
-      answers : Answers h ns ms (treeAt ns h 0) o (drop (r .next) T) ((r .result)) (r .counts)
+      answers : Answers h ns ms (treeAt ns h 0) o (drop (r .next) T) (r .result) (r .counts)
       answers =
           subst (λ (us : List Task). Answers h ns ms (treeAt ns h 0) (change st h noCeiling (treeAt ns h 0) us (runOf ns c)) (drop (r .next) T)
           (r .result) (r .counts))
@@ -222,7 +222,7 @@ module _ {st : Settings} {W₀ : List ℕ} {h₀ : ℕ} {op : Operation} {ps zs 
 
       -- AND ITS RESULT SETTLED
       module _ {W₂ : List ℕ} {q : Root} (done : SettledRoot st W₁ W₂ h (r .result) q) where
-        is : settleRoot ((r .result)) h (treeAt ms h 0) (unusedOf ms) ≡ y
+        is : settleRoot (r .result) h (treeAt ms h 0) (unusedOf ms) ≡ y
         is =
             ap (λ (v : ChangeResult). settleRoot v h (treeAt ms h 0) (unusedOf ms)) (answers .result)
             ∙ ap (λ (z : Tree h). settleRoot (o .result) h z (unusedOf ms)) root-is ∙ ap (settleRoot (o .result) h (o .node)) (answers .unused)

@@ -60,6 +60,6 @@ pub record Came (st : Settings) (W W′ : List ℕ) (h s : ℕ) (op : Operation)
   pub header : take 4 W′ ≡ take 4 W
   pub answers : Answers h (nodes st W) (nodes st W′) (treeAt (nodes st W) h s)
       (change st h ceiling (treeAt (nodes st W) h s) (drop at (tasksOf op ps zs ks)) (runOf (nodes st W) c))
-      (drop (r .next) (tasksOf op ps zs ks)) ((r .result)) (r .counts)
+      (drop (r .next) (tasksOf op ps zs ks)) (r .result) (r .counts)
   pub batch : Batch op ps zs ks (r .next) (r .counts)
   pub lowest : Lowest (nodes st W′) (r .low)

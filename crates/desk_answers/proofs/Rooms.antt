@@ -7,11 +7,12 @@ use mathlib.Core.List.{List, [], _∷_}
 use lib.ListN.{length, length-append, length-map}
 use Rattle.model.specs.declared.Settings.{Settings}
 use Rattle.model.specs.Lists.{All, none, one}
-use Rattle.model.specs.Tree.{Item, Tree, len, slotsOf}
+use Rattle.model.specs.Tree.{Tree, len, slotsOf}
 use Rattle.model.specs.Frame.{Frame, leaf, interior, nodesIn, branches, inTurn, framesFrom, framesOf, lineOf}
 use Rattle.model.specs.Sound.{Whole, Sound}
 use Rattle.model.proofs.Lists.{all-append, all-head, all-tail, all-map}
 use Rattle.model.proofs.Trees.{root-few, once-count}
+use Rattle.model.proofs.Readable.{branch-count}
 use Rattle.frame_text.specs.Entries.{startOf}
 use Rattle.frame_text.specs.Contents.{ofEntry, ofBranch, contentsOf}
 use Rattle.frame_text.proofs.Coded.{line-long}
@@ -30,10 +31,6 @@ entriesIn (interior bs) = length bs
 abbrev Few : ℕ → Frame → Type 0
 Few o f = entriesIn f ≤ o
 
-branches-long : (h i : ℕ) (cs : List (Item h)) → length (branches h i cs) ≡ length cs
-branches-long h i [] = refl
-branches-long h i (c ∷ cs) = ap suc (branches-long h (i + nodesIn h c) cs)
-
 module _ (st : Settings) where
   siblings : (h : ℕ) → ((i : ℕ) (n : Tree h) → len n ≤ st .order → All (Whole st h) (n .items) → All (Few (st .order)) (framesFrom h i n))
       → (i : ℕ) (cs : List (Tree h)) → All (Whole st (suc h)) cs → All (Few (st .order)) (inTurn (suc h) (framesFrom h) i cs)
@@ -44,7 +41,7 @@ module _ (st : Settings) where
   frames-few : (h i : ℕ) (n : Tree h) → len n ≤ st .order → All (Whole st h) (n .items) → All (Few (st .order)) (framesFrom h i n)
   frames-few zero i n few w = one {x = leaf (n .items)} few none
   frames-few (suc h) i n few w =
-      one {x = interior (branches (suc h) (i + 1) (n .items))} (omega (arith, few, branches-long (suc h) (i + 1) (n .items)))
+      one {x = interior (branches (suc h) (i + 1) (n .items))} (omega (arith, few, branch-count (suc h) (i + 1) (n .items)))
       (siblings h (frames-few h) (i + 1) (n .items) w)
 
 -- its line: two digits for the header and for each byte of an entry, and a line feed

@@ -20,7 +20,7 @@ use Rattle.model.proofs.Lists.{all-of, all-map}
 use Rattle.tree.specs.Pool.{SoundPool, settingsIn, indexOf, imageOf}
 use Rattle.tree.proofs.Pools.{image-sound, image-index, image-settings}
 use Rattle.index_promise.specs.Promise.{Where}
-use Rattle.index.proofs.Unique.{where-unique}
+use Rattle.index_promise.proofs.Unique.{where-unique}
 use Rattle.index.proofs.Register.{by-sound}
 use Rattle.desk_lines.specs.Lines.{linesOf}
 use Rattle.desk_lines.specs.Parts.{kept}

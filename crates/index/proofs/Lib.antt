@@ -1,5 +1,4 @@
--- `Unique`: a promise leaves one answer. `Opens`: opening. `Lends` and `Batched`: a batch. `Register`: the third demand, of the calls.
-pub mod Unique
+-- `Opens`: opening. `Lends` and `Batched`: a batch. `Register`: the third demand, of the calls.
 pub mod Opens
 pub mod Lends
 pub mod Batched

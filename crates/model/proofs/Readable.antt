@@ -57,7 +57,7 @@ branch-keys : (h i : ℕ) (cs : List (Item h)) → map (λ b. b .key) (branches 
 branch-keys h i [] = refl
 branch-keys h i (c ∷ cs) = ap (greatestKey h c ∷_) (branch-keys h (i + nodesIn h c) cs)
 
-branch-count : (h i : ℕ) (cs : List (Item h)) → length (branches h i cs) ≡ length cs
+pub branch-count : (h i : ℕ) (cs : List (Item h)) → length (branches h i cs) ≡ length cs
 branch-count h i [] = refl
 branch-count h i (c ∷ cs) = ap suc (branch-count h (i + nodesIn h c) cs)
 

@@ -7,19 +7,20 @@ use Rattle.model.specs.Answer.{Answer, refused, done}
 use Rattle.model.specs.declared.Request.{Request}
 use Rattle.model.specs.Refuse.{Call}
 use Rattle.frame_text.specs.declared.WriteAnswer.{WriteAnswer}
-use Rattle.frame.proofs.Undoes.{told-same}
+use Rattle.frame_text.specs.declared.WriteAnswer.the-variants as Write
+use Rattle.frame_text.specs.Answers.{lengthTold}
 use Rattle.index_promise.specs.declared.OpenAnswer.{OpenAnswer}
 use Rattle.index_promise.specs.declared.OpenAnswer.the-variants as Open
 use Rattle.index_promise.specs.declared.TotalsAnswer.{TotalsAnswer}
 use Rattle.index_promise.specs.declared.TotalsAnswer.the-variants as Totalled
 use Rattle.index_promise.specs.declared.BatchAnswer.{BatchAnswer}
 use Rattle.index_promise.specs.declared.BatchAnswer.the-variants as Batch
 use Rattle.index_promise.specs.declared.GetAnswer.{GetAnswer}
 use Rattle.index_promise.specs.declared.GetAnswer.the-variants as Get
 use Rattle.index_promise.specs.declared.ScanAnswer.{ScanAnswer}
 use Rattle.index_promise.specs.declared.ScanAnswer.the-variants as Scan
 use Rattle.index_promise.specs.Promise.{Where, holds, fails, Left, _leaving_, Opens, Totalling, Batches, Gets, Scans, Frames}
 use Rattle.index_promise.specs.Promise.{opening, totalled, batched, got, scanned}
 
 pub where-unique : {P : Type 0} {A : Type 0} {a b r s : A} → Where P a b r → Where P a b s → r ≡ s
 where-unique (holds p e) (holds q f) = e ∙ sym f
@@ -64,6 +65,10 @@ scan-again : (r : ScanAnswer) → again Scan.Done Scan.Refused (scanned r) ≡ r
 scan-again (Scan.Done a) = refl
 scan-again (Scan.Refused n) = refl
 
+length-again : (r : WriteAnswer) → again Write.Done Write.Refused (lengthTold r) ≡ r
+length-again (Write.Done n) = refl
+length-again (Write.Refused n) = refl
+
 -- THE CALLS
 
 pub one-opening : (st : Settings) (l k m : List ℕ) (r q : OpenAnswer) → Opens st l r k → Opens st l q m → (r ≡ q) × (k ≡ m)
@@ -82,4 +87,4 @@ pub one-scan : (l : List ℕ) (p : Request) (out k m : List ℕ) (r q : ScanAnsw
 one-scan l p out k m = one-left Scan.Done Scan.Refused scanned scan-again
 
 pub one-frame : (l : List ℕ) (i : ℕ) (line k m : List ℕ) (r q : WriteAnswer) → Frames l i line r k → Frames l i line q m → (r ≡ q) × (k ≡ m)
-one-frame l i line k m r q a b = let e = parts (where-unique a b) in (told-same r q (e .0), e .1)
+one-frame l i line k m = one-left Write.Done Write.Refused lengthTold length-again

@@ -1,0 +1,2 @@
+-- `Unique`: a promise leaves one answer.
+pub mod Unique
