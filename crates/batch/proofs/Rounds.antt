@@ -9,7 +9,6 @@ use lib.ListN.{length, take, drop, length-map, length-drop}
 use borrow.Author.Tests.{eqb-true, not-false}
 use Rattle.slots.specs.Nodes.{Held, nodes}
 use Rattle.slots.specs.Nodes as S
-use Rattle.slots_find.specs.Search.{Lowest}
 use Rattle.model.specs.declared.Counts.{Counts}
 use Rattle.model.specs.declared.Operation.{Operation}
 use Rattle.model.specs.declared.Operation.the-variants as Op
@@ -24,15 +23,18 @@ use Rattle.model.specs.Sound.{InLimits}
 use Rattle.model.proofs.Lists.{by-test, all-head, both-left, both-right}
 use Rattle.model.proofs.Calls.{Admitted, admitted, Passes, passes}
 use Rattle.model.proofs.Demands.{sound-fine}
-use Rattle.batch_leaf.specs.Leaf.{Batch, Lent, tasksOf}
+use Rattle.batch_leaf.specs.declared.Run.{Run}
+use Rattle.batch_leaf.specs.declared.Subtree.{Subtree}
+use Rattle.batch_leaf.specs.Leaf.{Batch, Lent}
 use Rattle.tree.specs.Bridge.{treeAt, unusedOf, HoldsIndex}
 use Rattle.tree.proofs.Few.{entries-most}
+use Rattle.tree_spare.specs.Spared.{Spared}
 use Rattle.batch_node.specs.declared.Reply.{Reply}
-use Rattle.batch_node.specs.Calls.{runOf, Asked, Call, Answers, Came}
+use Rattle.batch_node.specs.Calls.{runOf, Asked, ToChange, Answers, Came}
 use Rattle.batch_root.specs.declared.Root.{Root}
-use Rattle.batch_root.specs.Batch.{indexAt, Accepted, Changed}
-use Rattle.batch_root.specs.Roots.{Keeps, Becomes, Returned, SettledRoot, collapsed}
+use Rattle.batch_root.specs.Roots.{indexAt, Keeps, Returned, RootSettled, SettledRoot, collapsed}
 use Rattle.batch_root.proofs.Indexes.{root-read, index-read}
+use Rattle.batch.specs.Batch.{Accepted, Changed}
 use Rattle.batch.proofs.Rooms.{Going}
 use Rattle.batch.proofs.Rooms as R
 
@@ -40,17 +42,17 @@ use Rattle.batch.proofs.Rooms as R
 abbrev whole : Settings → List ℕ → ℕ → List Task → Batched
 whole st W₀ h₀ ts = changeRoot st (length ts) (indexAt (nodes st W₀) h₀) ts noCounts
 
-pub record Running (st : Settings) (W₀ : List ℕ) (h₀ : ℕ) (op : Operation) (ps zs ks W : List ℕ) (h low at : ℕ) (c : Counts) : Type 0 where
+pub record Running (st : Settings) (W₀ : List ℕ) (h₀ : ℕ) (b : M.Call) (W : List ℕ) (h : ℕ) (run : Run) : Type 0 where
   pub held : Held st W
   pub header : take 4 W ≡ take 4 W₀
   pub holds : HoldsIndex (nodes st W) (indexAt (nodes st W) h)
-  pub lowest : Lowest (nodes st W) low
-  pub long : length (tasksOf op ps zs ks) ≡ length ks
-  pub batch : Batch op ps zs ks at c
-  pub going : Going st (indexAt (nodes st W) h) (drop at (tasksOf op ps zs ks))
+  pub spared : Spared (nodes st W) (run .spare)
+  pub long : length (M.tasksOf b) ≡ length (b .keys)
+  pub batch : Batch b run
+  pub going : Going st (indexAt (nodes st W) h) (drop (run .next) (M.tasksOf b))
   pub calls : ℕ
-  pub enough : length (drop at (tasksOf op ps zs ks)) ≤ calls
-  pub same : changeRoot st calls (indexAt (nodes st W) h) (drop at (tasksOf op ps zs ks)) c ≡ whole st W₀ h₀ (tasksOf op ps zs ks)
+  pub enough : length (drop (run .next) (M.tasksOf b)) ≤ calls
+  pub same : changeRoot st calls (indexAt (nodes st W) h) (drop (run .next) (M.tasksOf b)) (run .counts) ≡ whole st W₀ h₀ (M.tasksOf b)
 
 -- THE START
 
@@ -68,22 +70,21 @@ lent-each (Op.Compare x a) ps zs ks e = tt
 once-most : (s m n : ℕ) → n ≡ cond (ltb s m) 1 0 → n ≤ 1
 once-most s m n = by-test (λ (v : ℕ). n ≡ v → n ≤ 1) (ltb s m) (λ q e. omega arith) (λ q e. omega arith)
 
-module _ {st : Settings} {W₀ : List ℕ} {h₀ low : ℕ} {op : Operation} {ps zs ks : List ℕ} where
-  pub start : {c : Counts} → c ≡ noCounts → Accepted st W₀ h₀ low (record { operation = op; places = ps; sizes = zs; keys = ks })
-      → Running st W₀ h₀ op ps zs ks W₀ h₀ low 0 c
+module _ {st : Settings} {W₀ : List ℕ} {root : Root} {b : M.Call} where
+  pub start : {c : Counts} → c ≡ noCounts → Accepted st W₀ root b
+      → Running st W₀ (root .height) b W₀ (root .height) (record { next = 0; counts = c; spare = root .spare })
   start ec a =
-      let lent : M.Call = record { operation = op; places = ps; sizes = zs; keys = ks } in
-      let x : Index = indexAt (nodes st W₀) h₀ in
-      let adm : Admitted st lent x = admitted st lent x (a .accepted) in
-      let p : Passes st lent x = passes st lent x (a .sound) (a .lent) (a .accepted) in
+      let x : Index = indexAt (nodes st W₀) (root .height) in
+      let adm : Admitted st b x = admitted st b x (a .accepted) in
+      let p : Passes st b x = passes st b x (a .sound) (a .lent) (a .accepted) in
       record {
         held = a .held;
         header = refl;
         holds = a .holds;
-        lowest = a .lowest;
-        long = sym (length-map (tasksOf op ps zs ks) (λ t. t .key)) ∙ ap length (p .keys);
+        spared = a .spared;
+        long = sym (length-map (M.tasksOf b) (λ t. t .key)) ∙ ap length (p .keys);
         batch = record {
-          lent = lent-each op ps zs ks (adm .matched);
+          lent = lent-each (b .operation) (b .places) (b .sizes) (b .keys) (adm .matched);
           short = omega (arith, adm .few, a .sound .settings .narrow);
           within = omega arith;
           few = record { few = omega (arith, ap (λ (d : Counts). d .added + d .replaced + d .removed + d .nothing) ec) };
@@ -101,9 +102,9 @@ module _ {st : Settings} {W₀ : List ℕ} {h₀ low : ℕ} {op : Operation} {ps
           small = omega (arith, entries-most st x (a .sound), p .short, a .sound .settings .narrow);
           shallow = omega (arith, a .sound .shallow, p .short, a .sound .settings .narrow);
         };
-        calls = length (tasksOf op ps zs ks);
+        calls = length (M.tasksOf b);
         enough = omega arith;
-        same = ap (changeRoot st (length (tasksOf op ps zs ks)) x (tasksOf op ps zs ks)) ec;
+        same = ap (changeRoot st (length (M.tasksOf b)) x (M.tasksOf b)) ec;
       }
 
 -- A TURN
@@ -113,10 +114,13 @@ pub record Next (ts : List Task) : Type 0 where
   pub tasks : List Task
   pub left : ts ≡ task ∷ tasks
 
-module _ {st : Settings} {W₀ : List ℕ} {h₀ : ℕ} {op : Operation} {ps zs ks W : List ℕ} {h low at : ℕ} {c : Counts}
-    (m : Running st W₀ h₀ op ps zs ks W h low at c) where
+module _ {st : Settings} {W₀ : List ℕ} {h₀ : ℕ} {b : M.Call} {W : List ℕ} {h : ℕ} {run : Run}
+    (m : Running st W₀ h₀ b W h run) where
   abbrev T : List Task
-  T = tasksOf op ps zs ks
+  T = M.tasksOf b
+
+  abbrev c : Counts
+  c = run .counts
 
   abbrev ns : List S.Node
   ns = nodes st W
@@ -137,23 +141,27 @@ module _ {st : Settings} {W₀ : List ℕ} {h₀ : ℕ} {op : Operation} {ps zs 
         fit = m .going .fit;
       }
 
-  pub next : at < length ks → Next (drop at T)
-  next lt = by (drop at T) refl
+  pub next : run .next < length (b .keys) → Next (drop (run .next) T)
+  next lt = by (drop (run .next) T) refl
     where
-      by : (us : List Task) → drop at T ≡ us → Next (drop at T)
-      by [] e = absurd (omega (arith, ap length e, length-drop at T, m .long))
+      by : (us : List Task) → drop (run .next) T ≡ us → Next (drop (run .next) T)
+      by [] e = absurd (omega (arith, ap length e, length-drop (run .next) T, m .long))
       by (u ∷ us) e = record { task = u; tasks = us; left = e }
 
-  module _ (n : Next (drop at T)) where
+  module _ (n : Next (drop (run .next) T)) where
     g : Going st x (n .task ∷ n .tasks)
     g = subst (Going st x) (n .left) (m .going)
 
+    -- the node that is called: the root, which has no ceiling
+    abbrev called-node : Subtree
+    called-node = record { height = h; slot = 0; ceiling = noCeiling }
+
     -- what the call asks
-    pub ask : Call st W h 0 op ps zs ks at noCeiling c low
+    pub ask : ToChange st W h called-node b run
     ask =
         record {
           held = m .held;
-          asked = subst (Asked st h noCeiling low ns (treeAt ns h 0)) (sym (n .left)) (record {
+          asked = subst (λ (us : List Task). Asked st h noCeiling ns (treeAt ns h 0) us (run .spare)) (sym (n .left)) (record {
             holds = m .holds .tree;
             apart = keeps .apart;
             given = R.given lim c g;
@@ -164,7 +172,7 @@ module _ {st : Settings} {W₀ : List ℕ} {h₀ : ℕ} {op : Operation} {ps zs 
             fit = g .fit;
             sets = g .sets;
             empty = m .holds .blank;
-            lowest = m .lowest;
+            spared = m .spared;
           });
           batch = m .batch;
         }
@@ -176,14 +184,14 @@ module _ {st : Settings} {W₀ : List ℕ} {h₀ : ℕ} {op : Operation} {ps zs 
     y = R.after lim c g
 
     -- THE ROOT CALLED
-    module _ {W₁ : List ℕ} {r : Reply} (came : Came st W W₁ h 0 op ps zs ks at noCeiling c r) where
+    module _ {W₁ : List ℕ} {r : Reply} (came : Came st W W₁ h called-node b run r) where
       abbrev ms : List S.Node
       ms = nodes st W₁
 
-      answers : Answers h ns ms (treeAt ns h 0) o (drop (r .next) T) (r .result) (r .counts)
+      answers : Answers h ns ms (treeAt ns h 0) o (drop (r .run .next) T) (r .result) (r .run .counts)
       answers =
-          subst (λ (us : List Task). Answers h ns ms (treeAt ns h 0) (change st h noCeiling (treeAt ns h 0) us (runOf ns c)) (drop (r .next) T)
-          (r .result) (r .counts))
+          subst (λ (us : List Task). Answers h ns ms (treeAt ns h 0) (change st h noCeiling (treeAt ns h 0) us (runOf ns c)) (drop (r .run .next) T)
+          (r .result) (r .run .counts))
           (n .left) (came .answers)
 
       -- the pool holds the root as the call left it
@@ -199,7 +207,7 @@ module _ {st : Settings} {W₀ : List ℕ} {h₀ : ℕ} {op : Operation} {ps zs 
       root-is : treeAt ms h 0 ≡ o .node
       root-is = root-read ms h (o .node) (R.node-root lim c g) light (answers .holds)
 
-      pub returned : Returned st W₁ h (r .low) (r .result)
+      pub returned : Returned st W₁ (record { height = h; spare = r .run .spare }) (r .result)
       returned =
           record {
             keeps = subst (Keeps st W₁) (sym (index-read ms h x₁ refl (R.node-root lim c g) light called)) (record {
@@ -209,16 +217,16 @@ module _ {st : Settings} {W₀ : List ℕ} {h₀ : ℕ} {op : Operation} {ps zs 
               small = light;
               fit = R.node-fit lim c g;
             });
-            lowest = came .lowest;
+            spared = came .spared;
             two = λ e. omega (arith, ap length (answers .unused), R.two lim c g (sym (answers .result) ∙ e));
             gone = λ e. ap (λ (z : Tree h). z .items) root-is ∙ R.gone lim c g (sym (answers .result) ∙ e);
             bounded = omega (arith, g .shallow);
           }
 
       -- a key is taken at least
-      pub further : at < r .next
+      pub further : run .next < r .run .next
       further =
-          omega (arith, R.fewer lim c g, ap length (answers .left), ap length (n .left), length-drop (r .next) T, length-drop at T)
+          omega (arith, R.fewer lim c g, ap length (answers .left), ap length (n .left), length-drop (r .run .next) T, length-drop (run .next) T)
 
       -- AND ITS RESULT SETTLED
       module _ {W₂ : List ℕ} {q : Root} (done : SettledRoot st W₁ W₂ h (r .result) q) where
@@ -241,37 +249,39 @@ module _ {st : Settings} {W₀ : List ℕ} {h₀ : ℕ} {op : Operation} {ps zs 
             R.call-off lim c g (m .calls) (whole st W₀ h₀ T) (omega (arith, m .enough, ap length (n .left)))
             (ap (λ (us : List Task). changeRoot st (m .calls) x us c) (sym (n .left)) ∙ m .same)
 
-        pub again : Running st W₀ h₀ op ps zs ks W₂ (q .height) (q .low) (r .next) (r .counts)
+        pub again : Running st W₀ h₀ b W₂ (q .height) (record { next = r .run .next; counts = r .run .counts; spare = q .spare })
         again =
             record {
               held = done .becomes .held;
               header = done .becomes .header ∙ came .header ∙ m .header;
               holds = subst (HoldsIndex (nodes st W₂)) (sym read-y) holds-y;
-              lowest = done .lowest;
+              spared = done .spared;
               long = m .long;
-              batch = came .batch;
-              going = subst (λ (z : Index). Going st z (drop (r .next) T)) (sym read-y) (subst (Going st y) (sym (answers .left)) on);
+              batch = record { lent = came .batch .lent; short = came .batch .short; within = came .batch .within; few = came .batch .few };
+              going = subst (λ (z : Index). Going st z (drop (r .run .next) T)) (sym read-y) (subst (Going st y) (sym (answers .left)) on);
               calls = off .calls;
               enough = omega (arith, off .enough, ap length (answers .left));
-              same = ap (λ (z : Index). changeRoot st (off .calls) z (drop (r .next) T) (r .counts)) read-y
-                  ∙ ap (λ (us : List Task). changeRoot st (off .calls) y us (r .counts)) (answers .left)
+              same = ap (λ (z : Index). changeRoot st (off .calls) z (drop (r .run .next) T) (r .run .counts)) read-y
+                  ∙ ap (λ (us : List Task). changeRoot st (off .calls) y us (r .run .counts)) (answers .left)
                   ∙ ap (changeRoot st (off .calls) y (o .tasks)) (answers .counts) ∙ off .same;
             }
 
   -- THE END: no key is left
-  pub finish : {W′ : List ℕ} → length ks ≤ at → Becomes st W W′ (collapsed x)
-      → Changed st W₀ W′ h₀ (record { operation = op; places = ps; sizes = zs; keys = ks }) c
-  finish {W′} ge b =
+  pub finish : {W′ : List ℕ} {q : Root} → length (b .keys) ≤ run .next → RootSettled st W W′ (collapsed x) q
+      → Changed st W₀ W′ h₀ b (record { counts = run .counts; root = q })
+  finish {W′} {q} ge d =
       record {
-        held = b .held;
-        header = b .header ∙ m .header;
-        holds = subst (λ (z : Batched). HoldsIndex (nodes st W′) (collapsed (z .index))) all (b .holds);
+        held = d .becomes .held;
+        header = d .becomes .header ∙ m .header;
+        holds = subst (λ (z : Batched). HoldsIndex (nodes st W′) (collapsed (z .index))) all (d .becomes .holds);
         counts = ap (λ (z : Batched). z .counts) all;
+        height = d .height ∙ ap (λ (z : Batched). collapsed (z .index) .height) all;
+        spared = d .spared;
       }
     where
-      none-by : (us : List Task) → drop at T ≡ us → drop at T ≡ []
+      none-by : (us : List Task) → drop (run .next) T ≡ us → drop (run .next) T ≡ []
       none-by [] e = e
-      none-by (u ∷ us) e = absurd (omega (arith, ap length e, length-drop at T, m .long))
+      none-by (u ∷ us) e = absurd (omega (arith, ap length e, length-drop (run .next) T, m .long))
 
       all : record { index = x; tasks = []; counts = c } ≡ whole st W₀ h₀ T
-      all = sym (R.no-call st (m .calls) x c) ∙ ap (λ (us : List Task). changeRoot st (m .calls) x us c) (sym (none-by (drop at T) refl)) ∙ m .same
+      all = sym (R.no-call st (m .calls) x c) ∙ ap (λ (us : List Task). changeRoot st (m .calls) x us c) (sym (none-by (drop (run .next) T) refl)) ∙ m .same

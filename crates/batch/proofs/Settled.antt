@@ -20,27 +20,32 @@ use Rattle.model.specs.declared.ChangeResult.the-variants.{Split, Remove}
 use Rattle.tree.proofs.Unused.{used-in}
 use Rattle.tree.proofs.SoundHolds.{slot-read}
 use Rattle.batch_share.proofs.Places.{node-used}
-use Rattle.batch_share.proofs.Puts.{blank-set, low-same}
-use Rattle.batch_root.specs.Batch.{indexAt}
-use Rattle.batch_root.specs.Roots.{Returned, SettledRoot, Splits, Halved}
+use Rattle.tree_spare.specs.declared.Spare.{Spare}
+use Rattle.tree_spare.proofs.Spares.{spared-same}
+use Rattle.batch_share.proofs.Puts.{blank-set}
+use Rattle.batch_root.specs.declared.Root.{Root}
+use Rattle.batch_root.specs.Roots.{indexAt, Returned, SettledRoot, Splits, Halved}
 use Rattle.batch_root.proofs.Indexes.{now-holds}
 use Rattle.batch_root.proofs.Sets.{no-blank, unused-same}
 
-module _ {st : Settings} {W : List ℕ} {h low : ℕ} {v : ChangeResult} (pre : Returned st W h low v) where
+module _ {st : Settings} {W : List ℕ} {root : Root} {v : ChangeResult} (pre : Returned st W root v) where
+  abbrev h : ℕ
+  h = root .height
+
   abbrev ns : List S.Node
   ns = nodes st W
 
-  abbrev t : Tree h
-  t = treeAt (nodes st W) h 0
+  abbrev t : Tree (root .height)
+  t = treeAt (nodes st W) (root .height) 0
 
   -- OVER-FULL: it is split
-  pub to-halve : v ≡ Split → Splits st W h low
-  to-halve e = record { keeps = pre .keeps; lowest = pre .lowest; two = pre .two e }
+  pub to-halve : v ≡ Split → Splits st W h (root .spare)
+  to-halve e = record { keeps = pre .keeps; spared = pre .spared; two = pre .two e }
 
-  pub split-settled : {W′ : List ℕ} {r : ℕ} → v ≡ Split → Halved st W W′ h r → SettledRoot st W W′ h v (record { height = h + 1; low = r })
+  pub split-settled : {W′ : List ℕ} {r : Spare} → v ≡ Split → Halved st W W′ h r → SettledRoot st W W′ h v (record { height = h + 1; spare = r })
   split-settled {W′} {r} e d =
-      subst (λ (u : ChangeResult). SettledRoot st W W′ h u (record { height = h + 1; low = r })) (sym e)
-      (record { becomes = d .becomes; height = omega arith; lowest = d .lowest })
+      subst (λ (u : ChangeResult). SettledRoot st W W′ h u (record { height = h + 1; spare = r })) (sym e)
+      (record { becomes = d .becomes; height = omega arith; spared = d .spared })
 
   -- EMPTY: it is a leaf again
   abbrev bare : S.Node
@@ -66,22 +71,22 @@ module _ {st : Settings} {W : List ℕ} {h low : ℕ} {v : ChangeResult} (pre : 
         blank = blank-set ns 0 bare (pre .keeps .holds .blank) (no-blank bare (kind-used 0));
       }
 
-  pub gone-settled : {W′ : List ℕ} → v ≡ Remove → Now st W W′ (putKind (nodes st W) 0 1) → SettledRoot st W W′ h v (record { height = 0; low = low })
+  pub gone-settled : {W′ : List ℕ} → v ≡ Remove → Now st W W′ (putKind (nodes st W) 0 1) → SettledRoot st W W′ h v (record { height = 0; spare = root .spare })
   unfolding putKind
   gone-settled {W′} e w =
-      subst (λ (u : ChangeResult). SettledRoot st W W′ h u (record { height = 0; low = low })) (sym e)
+      subst (λ (u : ChangeResult). SettledRoot st W W′ h u (record { height = 0; spare = root .spare })) (sym e)
       (record {
         becomes = now-holds st W W′ leaf _ w (leaf-holds (pre .gone e));
         height = refl;
-        lowest = low-same st W W′ low (pre .lowest) (ap unusedOf (w .is) ∙ leaf-unused);
+        spared = spared-same st W (pre .spared) W′ (ap unusedOf (w .is) ∙ leaf-unused);
       })
 
   -- ANY OTHER: it stays
-  pub stays-settled : {u : ChangeResult} → v ≡ u → settleRoot u h t (unusedOf ns) ≡ indexAt ns h → SettledRoot st W W h v (record { height = h; low = low })
+  pub stays-settled : {u : ChangeResult} → v ≡ u → settleRoot u h t (unusedOf ns) ≡ indexAt ns h → SettledRoot st W W h v root
   stays-settled e same =
       let is : indexAt ns h ≡ settleRoot v h t (unusedOf ns) = sym same ∙ ap (λ (r : ChangeResult). settleRoot r h t (unusedOf ns)) (sym e) in
       record {
         becomes = record { held = pre .keeps .held; header = refl; holds = subst (HoldsIndex ns) is (pre .keeps .holds) };
         height = ap (λ (x : Index). x .height) is;
-        lowest = pre .lowest;
+        spared = pre .spared;
       }

@@ -3,8 +3,11 @@
 // The root stays in slot 0: a split root's halves take new slots, and a lone child moves into the root's. The index
 // afterwards and the counts are those of the model's `batch`.
 ghost use Rattle.words.specs.Words.{words};
-ghost use Rattle.batch_root.specs.Batch.{Accepted, Changed};
+ghost use Rattle.model.specs.Refuse.{call};
 ghost use Rattle.batch_root.specs.Roots.{Returned, SettledRoot};
+ghost use Rattle.batch.specs.Batch.{Accepted, Changed};
+use batch_leaf::Run;
+use batch_leaf::Subtree;
 use batch_node::node_change;
 use batch_root::Root;
 use batch_root::collapse;
@@ -15,78 +18,90 @@ use model::Operation;
 use model::Settings;
 use slots::LEAF;
 
-// The keys of a batch that is not refused, taken one after the other by a sound index of this height, of which `low` is
-// the lowest unused slot. A leaf root may leave keys, and so may one that was emptied: then the root is called again.
+// What a batch has done, and what is left: the counts, and the root.
+pub struct Ran {
+    pub counts: Counts,
+    pub root: Root,
+}
+
+// The keys of a batch that is not refused, taken one after the other by a sound index with this root. A leaf root may leave keys, and so
+// may one that was emptied: then the root is called again.
 pub fn batch(
     pool: &mut [u8],
     st: Settings,
-    height: usize,
-    low: usize,
+    root: Root,
     keys: &[u64],
     places: &[u64],
     sizes: &[u32],
     op: Operation,
-) -> Counts
-    requires { ⌜ Accepted st (words (now pool)) height low (record { operation = op; places = now places; sizes = now sizes; keys = now keys }) ⌝ }
-    ensures { λ r. ⌜ Changed st (words (now (pool .entry))) (words (now (pool .exit))) height (record { operation = op; places = now (places .entry); sizes = now (sizes .entry); keys = now (keys .entry) }) r ⌝ }
+) -> Ran
+    requires { ⌜ Accepted st (words (now pool)) root (call op (now places) (now sizes) (now keys)) ⌝ }
+    ensures { λ r. let b = call op (now (places .entry)) (now (sizes .entry)) (now (keys .entry)) in
+        ⌜ Changed st (words (now (pool .entry))) (words (now (pool .exit))) (root .height) b r ⌝ }
 {
-    let mut h = height;
-    let mut from = low;
-    let mut at = 0;
-    let mut counts = model::no_counts();
-    while at < keys.len() {
+    let mut height = root.height;
+    let spare = root.spare;
+    let counts = model::no_counts();
+    let mut run = Run {
+        next: 0,
+        counts,
+        spare,
+    };
+    while run.next < keys.len() {
         // the root has no ceiling
-        let r = node_change(
-            pool,
-            st,
-            h,
-            0,
-            keys,
-            places,
-            sizes,
-            op,
-            at,
-            u64::MAX,
-            counts,
-            from,
-        );
+        let node = Subtree {
+            height,
+            slot: 0,
+            ceiling: u64::MAX,
+        };
+        let r = node_change(pool, st, node, keys, places, sizes, op, run);
         let result = r.result;
-        let root = settle_root(pool, st, h, result, r.low);
-        h = root.height;
-        from = root.low;
-        at = r.next;
-        counts = r.counts;
+        let came = r.run;
+        let counts = came.counts;
+        let spare = came.spare;
+        let left = settle_root(pool, st, Root { height, spare }, result);
+        let spare = left.spare;
+        height = left.height;
+        run = Run {
+            next: came.next,
+            counts,
+            spare,
+        };
     }
-    collapse(pool, st, h);
-    counts
+    let counts = run.counts;
+    let spare = run.spare;
+    let root = collapse(pool, st, Root { height, spare });
+    Ran { counts, root }
 }
 
 // What becomes of the root after a call: an over-full one is split, an empty one is a leaf again, and one below the
 // minimum stays, since it has no sibling.
-fn settle_root(pool: &mut [u8], st: Settings, height: usize, v: ChangeResult, low: usize) -> Root
-    requires { ⌜ Returned st (words (now pool)) height low v ⌝ }
-    ensures { λ r. ⌜ SettledRoot st (words (now (pool .entry))) (words (now (pool .exit))) height v r ⌝ }
+fn settle_root(pool: &mut [u8], st: Settings, root: Root, v: ChangeResult) -> Root
+    requires { ⌜ Returned st (words (now pool)) root v ⌝ }
+    ensures { λ r. ⌜ SettledRoot st (words (now (pool .entry))) (words (now (pool .exit))) (root .height) v r ⌝ }
 {
     match v {
         ChangeResult::Split => {
-            let low = split_root(pool, st, height, low);
+            let spare = root.spare;
+            let spare = split_root(pool, st, root.height, spare);
             return Root {
-                height: height + 1,
-                low,
+                height: root.height + 1,
+                spare,
             };
         }
         ChangeResult::Remove => {
             slots::set_kind(pool, st, 0, LEAF);
-            return Root { height: 0, low };
+            let spare = root.spare;
+            return Root { height: 0, spare };
         }
         ChangeResult::Unchanged => {
-            return Root { height, low };
+            return root;
         }
         ChangeResult::Absorb => {
-            return Root { height, low };
+            return root;
         }
         ChangeResult::Changed => {
-            return Root { height, low };
+            return root;
         }
     }
 }

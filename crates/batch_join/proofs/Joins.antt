@@ -7,7 +7,6 @@ use lib.ListN.{length, length-append}
 use borrow.Author.Tests.{le-leb, lt-leb}
 use Rattle.model.specs.declared.ChangeResult.the-variants.{Absorb}
 use Rattle.slots.specs.Nodes.{nodes, rowsAt}
-use Rattle.slots_find.specs.Search.{Lowest}
 use Rattle.model.specs.declared.Settings.{Settings}
 use Rattle.model.specs.Tree.{Node, Tree, len, refill, release}
 use Rattle.model.specs.Share.{Row, halved, join, followed, stay}
@@ -17,7 +16,9 @@ use Rattle.tree.specs.Bridge.{unusedOf}
 use Rattle.batch_share.specs.Settle.{kidsAt, childAt, beforeAt, afterAt, Ended}
 use Rattle.batch_share.specs.declared.Standing.{Standing}
 use Rattle.batch_share.specs.Steps.{Poise, Beside, Came, Left}
-use Rattle.batch_share.proofs.Puts.{low-same}
+use Rattle.tree_spare.specs.declared.Spare.{Spare}
+use Rattle.tree_spare.specs.Spared.{Spared}
+use Rattle.tree_spare.proofs.Spares.{spared-same}
 use Rattle.batch_share.proofs.Focuses.{poise-focus, focus-long}
 use Rattle.batch_share.proofs.Readings.{to-two, from-two, back-beside, on-beside}
 use Rattle.batch_share.proofs.Shares.{stays-left, ended-by}
@@ -38,18 +39,18 @@ module _ (st : Settings) {X : Type 0} (p c : Node X) (a : List (Node X)) (us : L
 -- TWO NEIGHBOURS, merged or levelled
 
 module _ {st : Settings} {W : List ℕ} {h s i : ℕ} {b : List (Tree h)} {p c : Tree h} {a : List (Tree h)} (t : Beside st W h s i b p c a) (W₁ : List ℕ)
-    (low : ℕ) where
+    (spare : Spare) where
   abbrev us : List ℕ
   us = unusedOf (nodes st W)
 
   abbrev Joined : Row (Tree h) → Type 0
-  Joined q = Left st W W₁ h s low (kidsAt (nodes st W) h s) (stay b q)
+  Joined q = Left st W W₁ h s spare (kidsAt (nodes st W) h s) (stay b q)
 
   pub merged-rowed : len p + len c ≤ st .order → Joined (record { nodes = refill p (p .items ++ c .items) ∷ a; unused = release (c .slot) us })
       → Joined (followed (join st p c us) a)
   merged-rowed le x = subst Joined (sym (join-fits st p c a us le)) x
 
-  pub even-rowed : st .order < len p + len c → Lowest (nodes st W) low
+  pub even-rowed : st .order < len p + len c → Spared (nodes st W) spare
       → Came st W W₁ h s (kidsAt (nodes st W) h s)
       (record {
         before = b;
@@ -57,48 +58,48 @@ module _ {st : Settings} {W : List ℕ} {h s i : ℕ} {b : List (Tree h)} {p c :
         unused = us;
       })
       → Joined (followed (join st p c us) a)
-  even-rowed lt l m = subst Joined (sym (join-over st p c a us lt)) (record { came = m; lowest = low-same st W W₁ low l (m .settled .unused) })
+  even-rowed lt l m = subst Joined (sym (join-over st p c a us lt)) (record { came = m; spared = spared-same st W l W₁ (m .settled .unused) })
 
 -- what joining children j and j + 1 asks ..
-abbrev Asks : (st : Settings) (W : List ℕ) (h s low j : ℕ) → List (Tree h) → Tree h → Tree h → List (Tree h) → Type 0
-Asks st W h s low j u v w z = Beside st W h s j u v w z × ((len v ≤ st .order) × ((len w ≤ st .order) × Lowest (nodes st W) low))
+abbrev Asks : (st : Settings) (W : List ℕ) (h s : ℕ) → Spare → ℕ → List (Tree h) → Tree h → Tree h → List (Tree h) → Type 0
+Asks st W h s spare j u v w z = Beside st W h s j u v w z × ((len v ≤ st .order) × ((len w ≤ st .order) × Spared (nodes st W) spare))
 
 -- .. and answers
-abbrev Answers : (st : Settings) (W W₁ : List ℕ) (h s r : ℕ) → List (Tree h) → Tree h → Tree h → List (Tree h) → Type 0
+abbrev Answers : (st : Settings) (W W₁ : List ℕ) (h s : ℕ) → Spare → List (Tree h) → Tree h → Tree h → List (Tree h) → Type 0
 Answers st W W₁ h s r u v w z = Left st W W₁ h s r (kidsAt (nodes st W) h s) (stay u (followed (join st v w (unusedOf (nodes st W))) z))
 
 -- ANY CHILD, alone or not: the number of rows tells
 
-module _ {st : Settings} {W : List ℕ} {h s i low k : ℕ} {c : Tree h} where
-  pub alone-ended : (b a : List (Tree h)) (r : Standing) → Poise st W h s i low k b c a → length (rowsAt st W s) ≡ 1 → r .at ≡ i → r .low ≡ low
+module _ {st : Settings} {W : List ℕ} {h s i : ℕ} {spare : Spare} {k : ℕ} {c : Tree h} where
+  pub alone-ended : (b a : List (Tree h)) (r : Standing) → Poise st W h s i spare k b c a → length (rowsAt st W s) ≡ 1 → r .at ≡ i → r .spare ≡ spare
       → Ended st W W h s Absorb r (kidsAt (nodes st W) h s) b c a
   alone-ended [] [] r t e ea el =
-      ended-by st W W h s Absorb r [] c [] _ refl (stays-left t .came) (ea ∙ t .at) (subst (Lowest (nodes st W)) (sym el) (t .lowest))
+      ended-by st W W h s Absorb r [] c [] _ refl (stays-left t .came) (ea ∙ t .at) (subst (Spared (nodes st W)) (sym el) (t .spared))
   alone-ended [] (n ∷ a) r t e ea el = absurd (omega (arith, focus-long (poise-focus t), e))
   alone-ended (p ∷ b) a r t e ea el = absurd (omega (arith, focus-long (poise-focus t), e, t .at))
 
-  pub absorb-asks : (b a : List (Tree h)) (j : ℕ) → Poise st W h s i low k b c a → Stocked st c → (length (rowsAt st W s) ≡ 1 → ⊥) → j ≡ i - 1
-      → Asks st W h s low j (beforeAt (nodes st W) h s j) (childAt (nodes st W) h s j) (childAt (nodes st W) h s (j + 1)) (afterAt (nodes st W) h s (j + 1))
+  pub absorb-asks : (b a : List (Tree h)) (j : ℕ) → Poise st W h s i spare k b c a → Stocked st c → (length (rowsAt st W s) ≡ 1 → ⊥) → j ≡ i - 1
+      → Asks st W h s spare j (beforeAt (nodes st W) h s j) (childAt (nodes st W) h s j) (childAt (nodes st W) h s (j + 1)) (afterAt (nodes st W) h s (j + 1))
   absorb-asks [] [] j t g ne e = absurd (ne (omega (arith, focus-long (poise-focus t), t .at)))
   absorb-asks [] (n ∷ a) j t g ne e =
       let z : i ≡ j = omega (arith, e, t .at) in
       let u : Beside st W h s j [] c n a = subst (λ (m : ℕ). Beside st W h s m [] c n a) z (on-beside (poise-focus t)) in
-      to-two u (Asks st W h s low j) (u, (g .few, (all-head (t .stocked-after) .few, t .lowest)))
+      to-two u (Asks st W h s spare j) (u, (g .few, (all-head (t .stocked-after) .few, t .spared)))
   absorb-asks (p ∷ b) a j t g ne e =
       let u : Beside st W h s j b p c a = subst (λ (m : ℕ). Beside st W h s m b p c a) (sym e) (back-beside (poise-focus t)) in
-      to-two u (Asks st W h s low j) (u, (all-head (t .stocked-before) .few, (g .few, t .lowest)))
+      to-two u (Asks st W h s spare j) (u, (all-head (t .stocked-before) .few, (g .few, t .spared)))
 
-  pub absorbed : (b a : List (Tree h)) (W₁ : List ℕ) (r : Standing) → Poise st W h s i low k b c a → (length (rowsAt st W s) ≡ 1 → ⊥) → r .at ≡ i - 1
-      → Answers st W W₁ h s (r .low) (beforeAt (nodes st W) h s (r .at)) (childAt (nodes st W) h s (r .at)) (childAt (nodes st W) h s (r .at + 1))
+  pub absorbed : (b a : List (Tree h)) (W₁ : List ℕ) (r : Standing) → Poise st W h s i spare k b c a → (length (rowsAt st W s) ≡ 1 → ⊥) → r .at ≡ i - 1
+      → Answers st W W₁ h s (r .spare) (beforeAt (nodes st W) h s (r .at)) (childAt (nodes st W) h s (r .at)) (childAt (nodes st W) h s (r .at + 1))
       (afterAt (nodes st W) h s (r .at + 1))
       → Ended st W W₁ h s Absorb r (kidsAt (nodes st W) h s) b c a
   absorbed [] [] W₁ r t ne e x = absurd (ne (omega (arith, focus-long (poise-focus t), t .at)))
   absorbed [] (n ∷ a) W₁ r t ne e x =
       let z : i ≡ r .at = omega (arith, e, t .at) in
       let u : Beside st W h s (r .at) [] c n a = subst (λ (m : ℕ). Beside st W h s m [] c n a) z (on-beside (poise-focus t)) in
-      let y : Answers st W W₁ h s (r .low) [] c n a = from-two u (Answers st W W₁ h s (r .low)) x in
-      ended-by st W W₁ h s Absorb r [] c (n ∷ a) _ refl (y .came) (u .at) (y .lowest)
+      let y : Answers st W W₁ h s (r .spare) [] c n a = from-two u (Answers st W W₁ h s (r .spare)) x in
+      ended-by st W W₁ h s Absorb r [] c (n ∷ a) _ refl (y .came) (u .at) (y .spared)
   absorbed (p ∷ b) a W₁ r t ne e x =
       let u : Beside st W h s (r .at) b p c a = subst (λ (m : ℕ). Beside st W h s m b p c a) (sym e) (back-beside (poise-focus t)) in
-      let y : Answers st W W₁ h s (r .low) b p c a = from-two u (Answers st W W₁ h s (r .low)) x in
-      ended-by st W W₁ h s Absorb r (p ∷ b) c a _ refl (y .came) (u .at) (y .lowest)
+      let y : Answers st W W₁ h s (r .spare) b p c a = from-two u (Answers st W W₁ h s (r .spare)) x in
+      ended-by st W W₁ h s Absorb r (p ∷ b) c a _ refl (y .came) (u .at) (y .spared)

@@ -1,26 +1,26 @@
 -- Two neighbours that are merged: the rows of the upper go to the lower, its slot is unused, and its row goes. Assumes nothing.
 use mathlib.Core.Path.{_≡_, refl, sym, ap, _∙_, subst}
 use mathlib.Core.List.{List, [], _∷_, _++_, map, reverseAux, append-assoc}
-use Prim.Native.Nat.{ℕ, suc, _+_, _*_, _≤_, _<_, min}
+use Prim.Native.Nat.{ℕ, suc, _+_, _*_, _≤_, _<_}
 use native.Mathlib.Omega.{arith}
-use native.Mathlib.Decide.{decLt}
 use lib.ListN.{length, set, length-map, length-set}
 use lib.Seq.{getD-set-other}
 use Rattle.slots_raw.specs.declared.Row as R
 use Rattle.slots.specs.Nodes.{nodes, nth, rowsAt, unused, putRows, without, put2, withRows, joinNodes, Give, Rows, Now}
 use Rattle.slots.specs.Nodes as S
-use Rattle.slots_find.specs.Search.{Lowest}
+use Rattle.tree_spare.specs.declared.Spare.{Spare}
+use Rattle.tree_spare.specs.Spared.{Spared, freeing}
+use Rattle.tree_spare.proofs.Spares.{spared-freed}
 use Rattle.slots.proofs.Nodes.{length-nodes}
 use Rattle.slots_raw.proofs.Over.{map-append}
 use Rattle.slots.proofs.Pads.{length-without}
 use Rattle.model.specs.declared.Settings.{Settings}
-use Rattle.model.specs.Lists.{none, one, times}
+use Rattle.model.specs.Lists.{none, one}
 use Rattle.model.specs.Tree.{Tree, len, release}
 use Rattle.model.specs.Share.{Place}
 use Rattle.model.specs.Contracts.{joined, back}
 use Rattle.model.proofs.Lists.{hit-same, hit-other}
 use Rattle.model.proofs.Trees.{back-joined}
-use Rattle.model.proofs.Settles.{times-release}
 use Rattle.tree.specs.Bridge.{rowFor, nodeFor, unusedOf}
 use Rattle.tree.proofs.Cells.{kind-used}
 use Rattle.tree.proofs.Unused.{unused-released, unused-kept}
@@ -32,33 +32,9 @@ use Rattle.batch_share.proofs.Zips.{set-turned, without-turned, map-turned}
 use Rattle.batch_share.proofs.Places.{node-used, node-len, family-rows, parent-in, came-kids}
 use Rattle.batch_share.proofs.Parents.{renews-after, renewed-after}
 use Rattle.batch_share.proofs.Recast.{recast-settles}
-use Rattle.batch_share.proofs.Puts.{put-first, put-other, length-put, blank-set, low-from, low-none, low-one}
+use Rattle.batch_share.proofs.Puts.{put-first, put-other, length-put, blank-set}
 use Rattle.batch_share.proofs.Turns.{own-lower, own-upper, apart-two, apart-lower, apart-upper, lower-in, upper-in, beside-long}
 use Rattle.batch_share.proofs.Cuts.{both}
-
--- a slot released: the lower of it and the lowest is the lowest now
-pub released-low : (st : Settings) (W W′ : List ℕ) (low y : ℕ) → Lowest (nodes st W) low → unusedOf (nodes st W′) ≡ release y (unusedOf (nodes st W))
-    → Lowest (nodes st W′) (min low y)
-released-low st W W′ low y l e =
-    low-from (nodes st W′) (min low y) (omega (arith, l .within, long))
-    (λ z g. ap (times z) e ∙ omega (
-      arith,
-      times-release z y (unusedOf (nodes st W)),
-      hit-other z y (λ q. absurd (omega arith)),
-      low-none (nodes st W) low l z (omega arith),
-    ))
-    (λ g. rw e (found (decLt low y) (omega (arith, g, long))))
-  where
-    long : length (nodes st W′) ≡ length (nodes st W)
-    long = length-nodes st W′ ∙ sym (length-nodes st W)
-
-    found : Dec (low < y) → min low y < length (nodes st W) → 0 < times (min low y) (release y (unusedOf (nodes st W)))
-    found (yes h) g =
-        let is : min low y ≡ low = omega arith in
-        rw is (omega (arith, times-release low y (unusedOf (nodes st W)), low-one (nodes st W) low l (omega arith)))
-    found (no h) g =
-        let is : min low y ≡ y = omega arith in
-        rw is (omega (arith, times-release y y (unusedOf (nodes st W)), hit-same y y refl))
 
 module _ {st : Settings} {W : List ℕ} {h s i : ℕ} {b : List (Tree h)} {p c : Tree h} {a : List (Tree h)} (t : Beside st W h s i b p c a)
     (x y : ℕ) (ex : x ≡ p .slot) (ey : y ≡ c .slot) where
@@ -174,14 +150,14 @@ module _ {st : Settings} {W : List ℕ} {h s i : ℕ} {b : List (Tree h)} {p c :
           (omega (arith, parent-in (t .family), length-nodes st W, length-put ns (p .slot) (nodeFor h (both h p c)) (c .slot) unused))
           newRows rows-new
 
-      pub merged-left : (low : ℕ) → Lowest ns low → (r : ℕ) → r ≡ min low y → (W₃ : List ℕ) → Now st W₂ W₃ (renewed (nodes st W₂) h s i x)
+      pub merged-left : (spare : Spare) → Spared ns spare → (r : Spare) → r ≡ freeing spare y → (W₃ : List ℕ) → Now st W₂ W₃ (renewed (nodes st W₂) h s i x)
           → Left st W W₃ h s r (kidsAt ns h s) mergedPlace
-      merged-left low l r er W₃ u =
+      merged-left spare l r er W₃ u =
           let q = renewed-after st W₁ W₂ h s i x less (parent-in (t .family)) (λ e. apart-lower t (sym ex ∙ e)) v W₃ u in
           let e : nodes st W₃ ≡ putRows mergedNodes s newRows = q .is ∙ ap (λ (ms : List S.Node). putRows ms s newRows) nodes-merged in
           let m : Came st W W₃ h s (reverseAux b (p ∷ c ∷ a)) mergedPlace =
           record { held = u .held; header = q .header ∙ w .header; settled = rw e merged-settles } in
           record {
             came = came-kids (t .family) W₃ mergedPlace m;
-            lowest = rw er (released-low st W W₃ low y l (m .settled .unused ∙ ap (λ (z : ℕ). release z (unusedOf ns)) (sym ey)));
+            spared = rw er (spared-freed st W l W₃ y (m .settled .unused ∙ ap (λ (z : ℕ). release z (unusedOf ns)) (sym ey)));
           }

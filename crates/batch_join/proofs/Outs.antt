@@ -1,7 +1,7 @@
 -- An empty child that is taken out: its slot is unused, and its row goes. Assumes nothing.
 use mathlib.Core.Path.{_≡_, refl, sym, ap, _∙_}
 use mathlib.Core.List.{List, [], _∷_, map, reverseAux, append-nil}
-use Prim.Native.Nat.{ℕ, suc, _-_, min}
+use Prim.Native.Nat.{ℕ, suc, _-_}
 use native.Mathlib.Omega.{arith}
 use lib.ListN.{length, set, length-set}
 use lib.Seq.{getD-set-other}
@@ -9,7 +9,9 @@ use Rattle.model.specs.declared.ChangeResult.the-variants.{Remove}
 use Rattle.slots_raw.specs.declared.Row as R
 use Rattle.slots.specs.Nodes.{nodes, nth, rowsAt, unused, putRows, without, Rows, Now}
 use Rattle.slots.specs.Nodes as S
-use Rattle.slots_find.specs.Search.{Lowest}
+use Rattle.tree_spare.specs.declared.Spare.{Spare}
+use Rattle.tree_spare.specs.Spared.{Spared, freeing}
+use Rattle.tree_spare.proofs.Spares.{spared-freed}
 use Rattle.slots.proofs.Nodes.{length-nodes}
 use Rattle.model.specs.declared.Settings.{Settings}
 use Rattle.model.specs.Lists.{none}
@@ -25,7 +27,6 @@ use Rattle.batch_share.proofs.Zips.{without-turned, map-turned}
 use Rattle.batch_share.proofs.Places.{parent-in, came-kids}
 use Rattle.batch_share.proofs.Recast.{recast-settles}
 use Rattle.batch_share.proofs.Puts.{blank-set}
-use Rattle.batch_join.proofs.Merges.{released-low}
 use Rattle.batch_share.proofs.Focuses.{focus-away, focus-used, focus-in, focus-long, focus-rows, focus-place}
 
 module _ {st : Settings} {W : List ℕ} {h s i : ℕ} {b : List (Tree h)} {c : Tree h} {a : List (Tree h)} (t : Focus st W h s i b c a)
@@ -78,21 +79,21 @@ module _ {st : Settings} {W : List ℕ} {h s i : ℕ} {b : List (Tree h)} {c : T
         record { held = v .held; header = v .header ∙ w .header; settled = rw e out-settles }
 
     -- the walk steps back
-    pub taken-out : (low : ℕ) → Lowest ns low → (r : Standing) → r .at ≡ i - 1 → r .low ≡ min low y → Ended st W W₂ h s Remove r (kidsAt ns h s) b c a
-    taken-out low l r ea el =
+    pub taken-out : (spare : Spare) → Spared ns spare → (r : Standing) → r .at ≡ i - 1 → r .spare ≡ freeing spare y → Ended st W W₂ h s Remove r (kidsAt ns h s) b c a
+    taken-out spare l r ea el =
         let m : Came st W W₂ h s (kidsAt ns h s) outPlace = came-kids (t .family) W₂ outPlace out-came in
-        let lo : Lowest (nodes st W₂) (r .low) = rw el (released-low st W W₂ low y l (m .settled .unused ∙ ap (λ (z : ℕ). release z (unusedOf ns)) (sym ey))) in
+        let lo : Spared (nodes st W₂) (r .spare) = rw el (spared-freed st W l W₂ y (m .settled .unused ∙ ap (λ (z : ℕ). release z (unusedOf ns)) (sym ey))) in
         by b (t .at) m lo
       where
         by : (d : List (Tree h)) → i ≡ length d
-            → Came st W W₂ h s (kidsAt ns h s) (record { before = d; rest = a; unused = release (c .slot) (unusedOf ns) }) → Lowest (nodes st W₂) (r .low)
+            → Came st W W₂ h s (kidsAt ns h s) (record { before = d; rest = a; unused = release (c .slot) (unusedOf ns) }) → Spared (nodes st W₂) (r .spare)
             → Ended st W W₂ h s Remove r (kidsAt ns h s) d c a
-        by [] e m lo = record { held = m .held; header = m .header; settled = m .settled; at = omega (arith, ea, e); lowest = lo }
+        by [] e m lo = record { held = m .held; header = m .header; settled = m .settled; at = omega (arith, ea, e); spared = lo }
         by (q ∷ d) e m lo =
             record {
               held = m .held;
               header = m .header;
               settled = record { holds = m .settled .holds; unused = m .settled .unused; frame = m .settled .frame; empty = m .settled .empty };
               at = omega (arith, ea, e);
-              lowest = lo;
+              spared = lo;
             }

@@ -4,21 +4,22 @@ ghost use mathlib.Core.List.{_∷_, _++_};
 ghost use Prim.Native.Nat.{_+_, _-_, _≤_};
 ghost use Rattle.words.specs.Words.{words};
 ghost use Rattle.slots.specs.Nodes.{Now, nodes};
-ghost use Rattle.slots_find.specs.Search.{Lowest};
 ghost use Rattle.model.specs.Tree.{len, refill, release};
 ghost use Rattle.model.specs.Share.{halved, join, followed};
 ghost use Rattle.model.specs.declared.ChangeResult.the-variants.{Absorb, Remove};
 ghost use Rattle.model.specs.Contracts.{Says};
 ghost use Rattle.tree.specs.Bridge.{unusedOf};
+ghost use Rattle.tree_spare.specs.Spared.{Spared};
 ghost use Rattle.batch_share.specs.Settle.{Done, childAt, afterAt};
 ghost use Rattle.batch_share.specs.Steps.{Poised, Neighbours, Parted, Rowed, Levels, levelNodes};
 use batch_share::Standing;
-use batch_share::lesser;
 use batch_share::weigh::child_at;
 use batch_share::weigh::child_len;
 use batch_share::weigh::renew;
 use batch_share::weigh::renew_two;
 use model::Settings;
+use tree_spare::Spare;
+use tree_spare::after_freeing;
 
 // Joins child `i` of node `s` with the previous sibling, or with the next if it is the first. The walk goes on from the two. (The Rust's
 // `process_absorb`.)
@@ -28,18 +29,18 @@ pub fn absorb(
     below: usize,
     s: usize,
     i: usize,
-    low: usize,
+    spare: Spare,
 ) -> Standing
-    requires { ⌜ Poised st (words (now pool)) below s i low 0 ⌝ }
+    requires { ⌜ Poised st (words (now pool)) below s i spare 0 ⌝ }
     requires { ⌜ Says st Absorb (childAt (nodes st (words (now pool))) below s i) ⌝ }
     ensures { λ r. ⌜ Done st (words (now (pool .entry))) (words (now (pool .exit))) below s i Absorb r ⌝ }
 {
     if slots::count(pool, st, s) == 1 {
-        return Standing { at: i, low };
+        return Standing { at: i, spare };
     }
     let at = one_back(i);
-    let low = join_children(pool, st, below, s, at, low);
-    Standing { at, low }
+    let spare = join_children(pool, st, below, s, at, spare);
+    Standing { at, spare }
 }
 
 // Joins children `i` and `i + 1`: in one node if they fit, else the half of their rows in each. (The Rust's `absorb`.)
@@ -49,26 +50,26 @@ fn join_children(
     below: usize,
     s: usize,
     i: usize,
-    low: usize,
-) -> usize
+    spare: Spare,
+) -> Spare
     requires { ⌜ Neighbours st (words (now pool)) below s i ⌝ }
     requires { ⌜ len (childAt (nodes st (words (now pool))) below s i) ≤ st .order ⌝ }
     requires { ⌜ len (childAt (nodes st (words (now pool))) below s (i + 1)) ≤ st .order ⌝ }
-    requires { ⌜ Lowest (nodes st (words (now pool))) low ⌝ }
+    requires { ⌜ Spared (nodes st (words (now pool))) spare ⌝ }
     ensures { λ r. let W = words (now (pool .entry)) in let ns = nodes st W in ⌜ Rowed st W (words (now (pool .exit))) below s i r (followed (join st (childAt ns below s i) (childAt ns below s (i + 1)) (unusedOf ns)) (afterAt ns below s (i + 1))) ⌝ }
 {
     if child_len(pool, st, below, s, i) + child_len(pool, st, below, s, i + 1) <= st.order {
-        return merge(pool, st, below, s, i, low);
+        return merge(pool, st, below, s, i, spare);
     }
     even_out(pool, st, below, s, i);
-    low
+    spare
 }
 
 // The rows of child `i + 1` go to the end of child `i`, and its slot is unused from now on.
-fn merge(pool: &mut [u8], st: Settings, below: usize, s: usize, i: usize, low: usize) -> usize
+fn merge(pool: &mut [u8], st: Settings, below: usize, s: usize, i: usize, spare: Spare) -> Spare
     requires { ⌜ Neighbours st (words (now pool)) below s i ⌝ }
     requires { ⌜ len (childAt (nodes st (words (now pool))) below s i) + len (childAt (nodes st (words (now pool))) below s (i + 1)) ≤ st .order ⌝ }
-    requires { ⌜ Lowest (nodes st (words (now pool))) low ⌝ }
+    requires { ⌜ Spared (nodes st (words (now pool))) spare ⌝ }
     ensures { λ r. let W = words (now (pool .entry)) in let ns = nodes st W in let p = childAt ns below s i in let c = childAt ns below s (i + 1) in ⌜ Rowed st W (words (now (pool .exit))) below s i r (record { nodes = refill p (p .items ++ c .items) ∷ afterAt ns below s (i + 1); unused = release (c .slot) (unusedOf ns) }) ⌝ }
 {
     let p = child_at(pool, st, below, s, i);
@@ -76,7 +77,7 @@ fn merge(pool: &mut [u8], st: Settings, below: usize, s: usize, i: usize, low: u
     slots_pair::join(pool, st, p, c);
     slots::remove_row(pool, st, s, i + 1);
     renew(pool, st, below, s, i, p);
-    lesser(low, c)
+    after_freeing(spare, c)
 }
 
 // Children `i` and `i + 1` share their rows, the lower half of them in child `i`.
@@ -114,9 +115,9 @@ pub fn take_out(
     below: usize,
     s: usize,
     i: usize,
-    low: usize,
+    spare: Spare,
 ) -> Standing
-    requires { ⌜ Poised st (words (now pool)) below s i low 0 ⌝ }
+    requires { ⌜ Poised st (words (now pool)) below s i spare 0 ⌝ }
     requires { ⌜ Says st Remove (childAt (nodes st (words (now pool))) below s i) ⌝ }
     ensures { λ r. ⌜ Done st (words (now (pool .entry))) (words (now (pool .exit))) below s i Remove r ⌝ }
 {
@@ -125,7 +126,7 @@ pub fn take_out(
     slots::remove_row(pool, st, s, i);
     Standing {
         at: one_back(i),
-        low: lesser(low, c),
+        spare: after_freeing(spare, c),
     }
 }
 

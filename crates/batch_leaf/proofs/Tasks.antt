@@ -15,9 +15,10 @@ use Rattle.model.specs.declared.Action.the-variants as Do
 use Rattle.model.specs.declared.Wish.{Wish}
 use Rattle.model.specs.declared.Wish.the-variants.{Always, IfMet}
 use Rattle.model.specs.Plain.{Task, each, pairs, references, step, effectOn, alters}
+use Rattle.model.specs.Refuse.{Call, call, tasksOf}
 use Rattle.model.specs.Change.{Run, Walked, takeTasks, counted}
 use Rattle.model.proofs.Lists.{by-test}
-use Rattle.batch_leaf.specs.Leaf.{Lent, tasksOf, taskAt}
+use Rattle.batch_leaf.specs.Leaf.{Lent, taskAt}
 
 -- THE NEXT TASK
 
@@ -27,19 +28,23 @@ each-next w (k ∷ ks) zero h = refl
 each-next w (k ∷ ks) (suc n) h = each-next w ks n (le-of-suc-le-suc h)
 
 pairs-next : (ps zs ks : List ℕ) (n : ℕ) → n < length ks → length ks ≤ length ps → length ks ≤ length zs
-    → drop n (pairs (references ps zs) ks) ≡ taskAt Op.SetEach ps zs ks n ∷ drop (suc n) (pairs (references ps zs) ks)
+    → drop n (pairs (references ps zs) ks) ≡ taskAt (call Op.SetEach ps zs ks) n ∷ drop (suc n) (pairs (references ps zs) ks)
 pairs-next ps zs [] n h p z = absurd (not-suc-le-zero h)
 pairs-next [] zs (k ∷ ks) n h p z = absurd (not-suc-le-zero p)
 pairs-next (a ∷ ps) [] (k ∷ ks) n h p z = absurd (not-suc-le-zero z)
 pairs-next (a ∷ ps) (b ∷ zs) (k ∷ ks) zero h p z = refl
 pairs-next (a ∷ ps) (b ∷ zs) (k ∷ ks) (suc n) h p z = pairs-next ps zs ks n (le-of-suc-le-suc h) (le-of-suc-le-suc p) (le-of-suc-le-suc z)
 
-pub task-next : (op : Operation) (ps zs ks : List ℕ) (n : ℕ) → n < length ks → Lent op ps zs (length ks)
-    → drop n (tasksOf op ps zs ks) ≡ taskAt op ps zs ks n ∷ drop (suc n) (tasksOf op ps zs ks)
-task-next (Op.Set r) ps zs ks n h l = each-next (Always (Do.Set r)) ks n h
-task-next Op.SetEach ps zs ks n h l = pairs-next ps zs ks n h (l .0) (l .1)
-task-next Op.Remove ps zs ks n h l = each-next (Always Do.Remove) ks n h
-task-next (Op.Compare e a) ps zs ks n h l = each-next (IfMet e a) ks n h
+next-of : (op : Operation) (ps zs ks : List ℕ) (n : ℕ) → n < length ks → Lent op ps zs (length ks)
+    → drop n (tasksOf (call op ps zs ks)) ≡ taskAt (call op ps zs ks) n ∷ drop (suc n) (tasksOf (call op ps zs ks))
+next-of (Op.Set r) ps zs ks n h l = each-next (Always (Do.Set r)) ks n h
+next-of Op.SetEach ps zs ks n h l = pairs-next ps zs ks n h (l .0) (l .1)
+next-of Op.Remove ps zs ks n h l = each-next (Always Do.Remove) ks n h
+next-of (Op.Compare e a) ps zs ks n h l = each-next (IfMet e a) ks n h
+
+pub task-next : (b : Call) (n : ℕ) → n < length (b .keys) → Lent (b .operation) (b .places) (b .sizes) (length (b .keys))
+    → drop n (tasksOf b) ≡ taskAt b n ∷ drop (suc n) (tasksOf b)
+task-next b n h l = next-of (b .operation) (b .places) (b .sizes) (b .keys) n h l
 
 -- the reference of that task is lent
 lent-less : (op : Operation) (ps zs : List ℕ) (n m : ℕ) → m ≤ n → Lent op ps zs n → Lent op ps zs m
@@ -48,8 +53,9 @@ lent-less Op.SetEach ps zs n m h l = (omega (arith, l .0), omega (arith, l .1))
 lent-less Op.Remove ps zs n m h l = tt
 lent-less (Op.Compare e a) ps zs n m h l = tt
 
-pub lent-next : (op : Operation) (ps zs ks : List ℕ) (n : ℕ) → n < length ks → Lent op ps zs (length ks) → Lent op ps zs (n + 1)
-lent-next op ps zs ks n h l = lent-less op ps zs (length ks) (n + 1) (omega arith) l
+pub lent-next : (b : Call) (n : ℕ) → n < length (b .keys) → Lent (b .operation) (b .places) (b .sizes) (length (b .keys))
+    → Lent (b .operation) (b .places) (b .sizes) (n + 1)
+lent-next b n h l = lent-less (b .operation) (b .places) (b .sizes) (length (b .keys)) (n + 1) (omega arith) l
 
 -- a SetEach has both lists
 pub lent-each : {op : Operation} (ps zs : List ℕ) (n : ℕ) → op ≡ Op.SetEach → Lent op ps zs n → (n ≤ length ps) × (n ≤ length zs)
@@ -67,14 +73,14 @@ pairs-few [] (k ∷ ks) = omega arith
 pairs-few (r ∷ rs) [] = omega arith
 pairs-few (r ∷ rs) (k ∷ ks) = omega (arith, pairs-few rs ks)
 
-tasks-few : (op : Operation) (ps zs ks : List ℕ) → length (tasksOf op ps zs ks) ≤ length ks
+tasks-few : (op : Operation) (ps zs ks : List ℕ) → length (tasksOf (call op ps zs ks)) ≤ length ks
 tasks-few (Op.Set r) ps zs ks = each-few (Always (Do.Set r)) ks
 tasks-few Op.SetEach ps zs ks = pairs-few (references ps zs) ks
 tasks-few Op.Remove ps zs ks = each-few (Always Do.Remove) ks
 tasks-few (Op.Compare e a) ps zs ks = each-few (IfMet e a) ks
 
-pub task-none : (op : Operation) (ps zs ks : List ℕ) (n : ℕ) → length ks ≤ n → drop n (tasksOf op ps zs ks) ≡ []
-task-none op ps zs ks n h = drop-of-length-le (tasksOf op ps zs ks) {i = n} (omega (arith, tasks-few op ps zs ks))
+pub task-none : (b : Call) (n : ℕ) → length (b .keys) ≤ n → drop n (tasksOf b) ≡ []
+task-none b n h = drop-of-length-le (tasksOf b) {i = n} (omega (arith, tasks-few (b .operation) (b .places) (b .sizes) (b .keys)))
 
 -- THE UNUSED SLOTS stay as they were where tasks are taken
 

@@ -8,17 +8,19 @@ use lib.ListN.{length, drop, getD}
 use Rattle.slots.specs.Nodes.{Held, Now, nodes, rowsAt, putRows}
 use Rattle.model.specs.declared.Settings.{Settings}
 use Rattle.model.specs.declared.Entry.{Entry}
-use Rattle.model.specs.declared.Counts.{Counts}
 use Rattle.model.specs.declared.Operation.{Operation}
 use Rattle.model.specs.declared.Operation.the-variants as Op
 use Rattle.model.specs.declared.Action.the-variants as Do
 use Rattle.model.specs.declared.Wish.{Wish}
 use Rattle.model.specs.declared.Wish.the-variants.{Always, IfMet}
-use Rattle.model.specs.Plain.{Task, references, tasksFor}
+use Rattle.model.specs.Plain.{Task}
+use Rattle.model.specs.Refuse.{Call, tasksOf}
 use Rattle.model.specs.Sound.{Sorted}
-use Rattle.model.specs.Change.{Run, Walked, takeTasks}
+use Rattle.model.specs.Change.{Walked, takeTasks}
 use Rattle.tree.specs.Bridge.{entryOf, entryRow}
 use Rattle.batch_effect.specs.Under.{Few}
+use Rattle.batch_leaf.specs.declared.Run.{Run}
+use Rattle.batch_leaf.specs.declared.Subtree.{Subtree}
 use Rattle.batch_leaf.specs.declared.Progress.{Progress}
 
 -- a leaf in slot s that has room for one more entry
@@ -37,10 +39,6 @@ Lent Op.SetEach ps zs n = (n ≤ length ps) × (n ≤ length zs)
 Lent Op.Remove ps zs n = Unit {0}
 Lent (Op.Compare e a) ps zs n = Unit {0}
 
--- the tasks of a batch, its references lent as places and sizes
-abbrev pub tasksOf : Operation → List ℕ → List ℕ → List ℕ → List Task
-tasksOf op ps zs ks = tasksFor op (references ps zs) ks
-
 -- what an operation wishes of key i, and the task of that key
 abbrev pub wishAt : Operation → List ℕ → List ℕ → ℕ → Wish
 wishAt (Op.Set r) ps zs i = Always (Do.Set r)
@@ -48,27 +46,29 @@ wishAt Op.SetEach ps zs i = Always (Do.Set (record { place = getD ps i 0; size =
 wishAt Op.Remove ps zs i = Always Do.Remove
 wishAt (Op.Compare e a) ps zs i = IfMet e a
 
-abbrev pub taskAt : Operation → List ℕ → List ℕ → List ℕ → ℕ → Task
-taskAt op ps zs ks i = record { key = getD ks i 0; wish = wishAt op ps zs i }
+abbrev pub taskAt : Call → ℕ → Task
+taskAt b i = record { key = getD (b .keys) i 0; wish = wishAt (b .operation) (b .places) (b .sizes) i }
 
--- a batch of which the first `at` keys are taken, and counted
-pub record Batch (op : Operation) (ps zs ks : List ℕ) (at : ℕ) (c : Counts) : Type 0 where
-  pub lent : Lent op ps zs (length ks)
-  pub short : length ks ≤ 4294967296
-  pub within : at ≤ length ks
-  pub few : Few c at
+-- a batch of which the keys up to the next one are taken, and counted
+pub record Batch (b : Call) (run : Run) : Type 0 where
+  pub lent : Lent (b .operation) (b .places) (b .sizes) (length (b .keys))
+  pub short : length (b .keys) ≤ 4294967296
+  pub within : run .next ≤ length (b .keys)
+  pub few : Few (run .counts) (run .next)
 
--- what the model's leaf takes of the tasks from `at` on
-abbrev pub taking : Settings → List ℕ → ℕ → List Task → ℕ → ℕ → Run → Walked Entry
-taking st W s ts at ceiling run =
-    takeTasks (max (length (rowsAt st W s)) (st .order)) ceiling (drop at ts) (map entryOf (rowsAt st W s)) false run
+-- what the model's leaf takes of the tasks from the next one on, with any unused slots
+abbrev pub taking : Settings → List ℕ → Subtree → Call → Run → List ℕ → Walked Entry
+taking st W leaf b run us =
+    let rows = rowsAt st W (leaf .slot) in
+    takeTasks (max (length rows) (st .order)) (leaf .ceiling) (drop (run .next) (tasksOf b)) (map entryOf rows) false
+    (record { unused = us; counts = run .counts })
 
--- the leaf, the position, the change and the counts are the model's
-pub record Took (st : Settings) (W W′ : List ℕ) (s : ℕ) (ks : List ℕ) (ts : List Task) (at ceiling : ℕ) (run : Run) (r : Progress) : Type 0 where
-  pub did : Now st W W′ (putRows (nodes st W) s (map entryRow (taking st W s ts at ceiling run .items)))
-  pub left : drop (r .next) ts ≡ taking st W s ts at ceiling run .tasks
-  pub changed : r .changed ≡ taking st W s ts at ceiling run .changed
-  pub counts : r .counts ≡ taking st W s ts at ceiling run .run .counts
-  pub few : Few (r .counts) (r .next)
-  pub forth : at ≤ r .next
-  pub within : r .next ≤ length ks
+-- the leaf, the tasks left, the change and the counts are the model's
+pub record Took (st : Settings) (W W′ : List ℕ) (leaf : Subtree) (b : Call) (run : Run) (us : List ℕ) (r : Progress) : Type 0 where
+  pub did : Now st W W′ (putRows (nodes st W) (leaf .slot) (map entryRow (taking st W leaf b run us .items)))
+  pub left : drop (r .run .next) (tasksOf b) ≡ taking st W leaf b run us .tasks
+  pub changed : r .changed ≡ taking st W leaf b run us .changed
+  pub counts : r .run .counts ≡ taking st W leaf b run us .run .counts
+  pub forth : run .next ≤ r .run .next
+  pub batch : Batch b (r .run)
+  pub spare : r .run .spare ≡ run .spare

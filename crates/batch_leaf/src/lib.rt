@@ -8,7 +8,8 @@ ghost use Prim.Native.Nat.{ℕ, _+_};
 ghost use lib.ListN.{length};
 ghost use Rattle.words.specs.Words.{words};
 ghost use Rattle.slots.specs.Nodes.{At, rowsAt};
-ghost use Rattle.batch_leaf.specs.Leaf.{Leaf, Lent, Batch, Took, tasksOf, wishAt};
+ghost use Rattle.model.specs.Refuse.{call};
+ghost use Rattle.batch_leaf.specs.Leaf.{Leaf, Lent, Batch, Took, wishAt};
 ghost use Rattle.batch_leaf.specs.Keys.{goesOn};
 
 mod key; // one key in a leaf
@@ -22,47 +23,56 @@ use model::Operation;
 use model::Reference;
 use model::Settings;
 use model::Wish;
+use tree_spare::Spare;
 
-// How far a batch has come: the next key, whether the leaf changed, and the counts.
-pub struct Progress {
+// How far a batch has come: the next key, the counts so far, and the unused slots. It is handed down the tree and back.
+pub struct Run {
     pub next: usize,
-    pub changed: bool,
     pub counts: Counts,
+    pub spare: Spare,
 }
 
-// Leaf `s` takes keys, from key `at` on: the Rust's `modify_leaf`. It takes them until its length exceeds
-// the larger of its length at first and order; that is order, since no leaf comes with more.
+// A node that keys are taken by, its height, its slot, and the greatest key that it may take.
+pub struct Subtree {
+    pub height: usize,
+    pub slot: usize,
+    pub ceiling: u64,
+}
+
+// How far a batch has come after a leaf, and whether the leaf changed.
+pub struct Progress {
+    pub run: Run,
+    pub changed: bool,
+}
+
+// A leaf takes keys, from the next one on: the Rust's `modify_leaf`. It takes them until its length exceeds the larger of its length at
+// first and order; that is order, since no leaf comes with more.
 pub fn take_keys(
     pool: &mut [u8],
     st: Settings,
-    s: usize,
+    leaf: Subtree,
     keys: &[u64],
     places: &[u64],
     sizes: &[u32],
     op: Operation,
-    at: usize,
-    ceiling: u64,
-    counts: Counts,
+    run: Run,
 ) -> Progress
-    requires { ⌜ Leaf st (words (now pool)) s × Batch op (now places) (now sizes) (now keys) at counts ⌝ }
-    ensures { λ r. let ks = now (keys .entry) in let ts = tasksOf op (now (places .entry)) (now (sizes .entry)) ks in ⌜ ((us : List ℕ) → Took st (words (now (pool .entry))) (words (now (pool .exit))) s ks ts at ceiling (record { unused = us; counts = counts }) r) ⌝ }
+    requires { ⌜ Leaf st (words (now pool)) (leaf .slot) × Batch (call op (now places) (now sizes) (now keys)) run ⌝ }
+    ensures { λ r. let b = call op (now (places .entry)) (now (sizes .entry)) (now (keys .entry)) in
+        ⌜ ((us : List ℕ) → Took st (words (now (pool .entry))) (words (now (pool .exit))) leaf b run us r) ⌝ }
 {
-    let mut next = at;
+    let mut now = run;
     let mut changed = false;
-    let mut c = counts;
-    while takes(pool, st, s, keys, next, ceiling) {
+    while takes(pool, st, leaf.slot, keys, now.next, leaf.ceiling) {
+        let next = now.next;
         let key = keys[next];
         let wish = wish_at(op, places, sizes, next);
-        let effect = change_key(pool, st, s, key, wish);
+        let effect = change_key(pool, st, leaf.slot, key, wish);
         changed = altered(changed, effect);
-        c = counted(c, effect);
-        next += 1;
+        now.counts = counted(now.counts, effect);
+        now.next = next + 1;
     }
-    Progress {
-        next,
-        changed,
-        counts: c,
-    }
+    Progress { run: now, changed }
 }
 
 // Whether leaf `s` takes key `next`.

@@ -12,12 +12,11 @@ use Rattle.slots_raw.specs.declared.Row.{Row}
 use Rattle.slots_raw.specs.Slots.{blank}
 use Rattle.slots.specs.Nodes.{Held, At, nodes, rowsAt}
 use Rattle.slots.specs.Nodes as S
-use Rattle.slots_find.specs.Search.{Lowest}
 use Rattle.model.specs.declared.Settings.{Settings}
 use Rattle.model.specs.declared.Counts.{Counts}
-use Rattle.model.specs.declared.Operation.{Operation}
 use Rattle.model.specs.Tree.{Tree, greatestKey}
 use Rattle.model.specs.Plain.{Task}
+use Rattle.model.specs.Refuse.{Call, tasksOf}
 use Rattle.model.specs.Share.{Place}
 use Rattle.model.specs.declared.ChangeResult.{ChangeResult}
 use Rattle.model.specs.Change.{Outcome, Spot, seek, ceilingFor, resultOf, change, settle, isChange}
@@ -25,17 +24,20 @@ use Rattle.model.specs.Sound.{InLimits}
 use Rattle.model.specs.Contracts.{flat, joined, back, Says, takes}
 use Rattle.model.proofs.Lists.{both-left, both-right, all-head}
 use Rattle.model.proofs.Trees.{flat-three, flat-joined, back-joined}
-use Rattle.batch_leaf.specs.Leaf.{Batch, tasksOf, taskAt}
+use Rattle.batch_leaf.specs.declared.Run.{Run}
+use Rattle.batch_leaf.specs.declared.Subtree.{Subtree}
+use Rattle.batch_leaf.specs.Leaf.{Batch, taskAt}
 use Rattle.batch_leaf.proofs.Tasks.{task-next, task-none}
 use Rattle.tree.specs.Bridge.{childOf, rowFor, Holds, treeAt, unusedOf}
 use Rattle.tree.proofs.ReadOff.{Light, Lights, child-slot, held-tree, kids-read}
 use Rattle.model.specs.declared.ChangeResult.{ChangeResult}
+use Rattle.tree_spare.specs.Spared.{Spared}
 use Rattle.batch_share.specs.declared.Standing.{Standing}
 use Rattle.batch_share.specs.Settle.{kidsAt, childAt, beforeAt, afterAt, Loose, Pend, Pending, Settled, Ended, Done}
 use Rattle.batch_share.proofs.Zips.{drop-turned, getD-turned, map-turned}
 use Rattle.batch_share.proofs.Places.{before-is, child-is, after-is}
 use Rattle.batch_node.specs.declared.Reply.{Reply}
-use Rattle.batch_node.specs.Calls.{runOf, Asked, Call, Answers, Came}
+use Rattle.batch_node.specs.Calls.{runOf, Asked, ToChange, Answers, Came}
 use Rattle.batch_seek.specs.Seek.{roams, skip, Seeked}
 use Rattle.batch_seek.proofs.Seeks.{roams-yes, seek-skip, seek-turned}
 use Rattle.batch_node.proofs.Leaves.{slot-in}
@@ -45,99 +47,99 @@ use Rattle.batch_node.proofs.Walks.{Walking, asked, says, stocked-sides
 cross : {A B D : Type 0} (P : A → B → D → Type 0) {a a′ : A} {b b′ : B} {d d′ : D} → a ≡ a′ → b ≡ b′ → d ≡ d′ → P a b d → P a′ b′ d′
 cross {A} {B} P {a′ = a′} {b = b} {b′ = b′} {d = d} ea eb ed p = subst (P a′ b′) ed (subst (λ (x : B). P a′ x d) eb (subst (λ (x : A). P x b d) ea p))
 
--- THE LOOP'S INVARIANT, of the code's values: W₀, at, c₀ are those of the start
-pub record Roaming (st : Settings) (W₀ W : List ℕ) (h s : ℕ) (op : Operation) (ps zs ks : List ℕ) (at ceiling : ℕ) (c₀ : Counts) (i next : ℕ) (changed : Bool) (c : Counts) (low : ℕ) : Type 0 where
+-- THE LOOP'S INVARIANT, of the code's values: W₀ and run₀ are those of the start
+pub record Roaming (st : Settings) (W₀ W : List ℕ) (h : ℕ) (node : Subtree) (b : Call) (run₀ : Run) (i : ℕ) (changed : Bool) (run : Run) : Type 0 where
   pub held : Held st W
   pub header : take 4 W ≡ take 4 W₀
-  pub batch : Batch op ps zs ks next c
-  pub lowest : Lowest (nodes st W) low
+  pub batch : Batch b run
+  pub spared : Spared (nodes st W) (run .spare)
   pub before : List (Tree h)
   pub rest : List (Tree h)
   pub turns : ℕ
   pub index : i ≡ length before
-  pub walking : Walking st h s ceiling (nodes st W₀) (treeAt (nodes st W₀) (suc h) s) (drop at (tasksOf op ps zs ks)) c₀ (nodes st W) before rest turns changed
-      (drop next (tasksOf op ps zs ks)) c
+  pub walking : Walking st h (node .slot) (node .ceiling) (nodes st W₀) (treeAt (nodes st W₀) (suc h) (node .slot)) (drop (run₀ .next) (tasksOf b)) (run₀ .counts) (nodes st W) before rest turns changed
+      (drop (run .next) (tasksOf b)) (run .counts)
 
 -- A ROUND: there is a child, and a task that is not above the ceiling
-pub record Round (st : Settings) (W₀ W : List ℕ) (h s : ℕ) (op : Operation) (ps zs ks : List ℕ) (at ceiling : ℕ) (c₀ : Counts) (i next : ℕ) (changed : Bool) (c : Counts) (low : ℕ) : Type 0 where
-  pub here : Roaming st W₀ W h s op ps zs ks at ceiling c₀ i next changed c low
+pub record Round (st : Settings) (W₀ W : List ℕ) (h : ℕ) (node : Subtree) (b : Call) (run₀ : Run) (i : ℕ) (changed : Bool) (run : Run) : Type 0 where
+  pub here : Roaming st W₀ W h node b run₀ i changed run
   pub kid : Tree h
   pub kids : List (Tree h)
   pub task : Task
   pub tasks : List Task
-  pub left : drop next (tasksOf op ps zs ks) ≡ task ∷ tasks
-  pub key : task .key ≡ getD ks next 0
-  pub le : task .key ≤ ceiling
-  pub walking : Walking st h s ceiling (nodes st W₀) (treeAt (nodes st W₀) (suc h) s) (drop at (tasksOf op ps zs ks)) c₀ (nodes st W) (here .before) (kid ∷ kids)
-      (here .turns) changed (task ∷ tasks) c
+  pub left : drop (run .next) (tasksOf b) ≡ task ∷ tasks
+  pub key : task .key ≡ getD (b .keys) (run .next) 0
+  pub le : task .key ≤ node .ceiling
+  pub walking : Walking st h (node .slot) (node .ceiling) (nodes st W₀) (treeAt (nodes st W₀) (suc h) (node .slot)) (drop (run₀ .next) (tasksOf b)) (run₀ .counts) (nodes st W) (here .before) (kid ∷ kids)
+      (here .turns) changed (task ∷ tasks) (run .counts)
 
 -- THE START
-pub round-start : {st : Settings} {W : List ℕ} {h s : ℕ} {op : Operation} {ps zs ks : List ℕ} {at ceiling : ℕ} {c : Counts} {low : ℕ}
-    → Call st W (suc h) s op ps zs ks at ceiling c low → Roaming st W W h s op ps zs ks at ceiling c 0 at false c low
-round-start {st} {W} {h} {s} {op} {ps} {zs} {ks} {at} {ceiling} {c} {low} call =
+pub round-start : {st : Settings} {W : List ℕ} {h : ℕ} {node : Subtree} {b : Call} {run : Run}
+    → ToChange st W (suc h) node b run → Roaming st W W h node b run 0 false run
+round-start {st} {W} {h} {node} {b} {run} asks =
     record {
-      held = call .held;
+      held = asks .held;
       header = refl;
-      batch = call .batch;
-      lowest = call .asked .lowest;
+      batch = asks .batch;
+      spared = asks .asked .spared;
       before = [];
-      rest = treeAt (nodes st W) (suc h) s .items;
-      turns = length (drop at (tasksOf op ps zs ks));
+      rest = treeAt (nodes st W) (suc h) (node .slot) .items;
+      turns = length (drop (run .next) (tasksOf b));
       index = refl;
-      walking = start c (call .asked);
+      walking = start (run .counts) (asks .asked);
     }
 
 abbrev headKey : List Task → ℕ
 headKey [] = 0
 headKey (t ∷ ts) = t .key
 
-module _ {st : Settings} {W₀ W : List ℕ} {h s : ℕ} {op : Operation} {ps zs ks : List ℕ} {at ceiling : ℕ} {c₀ : Counts} {i next : ℕ} {changed : Bool} {c : Counts} {low : ℕ}
-    (m : Roaming st W₀ W h s op ps zs ks at ceiling c₀ i next changed c low) where
+module _ {st : Settings} {W₀ W : List ℕ} {h : ℕ} {node : Subtree} {b : Call} {run₀ : Run} {i : ℕ} {changed : Bool} {run : Run}
+    (m : Roaming st W₀ W h node b run₀ i changed run) where
   abbrev ts : List Task
-  ts = tasksOf op ps zs ks
+  ts = tasksOf b
 
   abbrev t₀ : Tree (suc h)
-  t₀ = treeAt (nodes st W₀) (suc h) s
+  t₀ = treeAt (nodes st W₀) (suc h) (node .slot)
 
   abbrev Here : List (Tree h) → List Task → Type 0
-  Here rest us = Walking st h s ceiling (nodes st W₀) t₀ (drop at ts) c₀ (nodes st W) (m .before) rest (m .turns) changed us c
+  Here rest us = Walking st h (node .slot) (node .ceiling) (nodes st W₀) t₀ (drop (run₀ .next) ts) (run₀ .counts) (nodes st W) (m .before) rest (m .turns) changed us (run .counts)
 
-  long : length (rowsAt st W s) ≡ length (m .before) + length (m .rest)
+  long : length (rowsAt st W (node .slot)) ≡ length (m .before) + length (m .rest)
   long =
       ap (λ (n : S.Node). length (n .rows)) (all-head (m .walking .stroll .holds)) ∙ length-map (reverseAux (m .before) (m .rest)) (rowFor (suc h))
       ∙ length-reverseAux (m .before) (m .rest)
 
-  pub round-at : At st W s
+  pub round-at : At st W (node .slot)
   round-at =
       record {
         held = m .held;
-        slot = slot-in st W s (λ e. absurd (omega (arith, ap (λ (n : S.Node). n .kind) (all-head (m .walking .stroll .holds)), e)));
+        slot = slot-in st W (node .slot) (λ e. absurd (omega (arith, ap (λ (n : S.Node). n .kind) (all-head (m .walking .stroll .holds)), e)));
       }
 
   -- THE TEST IS MET
-  module _ (q : roams ks next ceiling i (length (rowsAt st W s)) ≡ true) where
-    later : (leb (getD ks next 0) ceiling && ltb i (length (rowsAt st W s))) ≡ true
-    later = both-right (ltb next (length ks)) (leb (getD ks next 0) ceiling && ltb i (length (rowsAt st W s))) q
+  module _ (q : roams (b .keys) (run .next) (node .ceiling) i (length (rowsAt st W (node .slot))) ≡ true) where
+    later : (leb (getD (b .keys) (run .next) 0) (node .ceiling) && ltb i (length (rowsAt st W (node .slot)))) ≡ true
+    later = both-right (ltb (run .next) (length (b .keys))) (leb (getD (b .keys) (run .next) 0) (node .ceiling) && ltb i (length (rowsAt st W (node .slot)))) q
 
-    pub next-in : next < length ks
-    next-in = ltb-true _ _ (both-left (ltb next (length ks)) (leb (getD ks next 0) ceiling && ltb i (length (rowsAt st W s))) q)
+    pub next-in : run .next < length (b .keys)
+    next-in = ltb-true _ _ (both-left (ltb (run .next) (length (b .keys))) (leb (getD (b .keys) (run .next) 0) (node .ceiling) && ltb i (length (rowsAt st W (node .slot)))) q)
 
-    pub child-in : i < length (rowsAt st W s)
-    child-in = ltb-true _ _ (both-right (leb (getD ks next 0) ceiling) (ltb i (length (rowsAt st W s))) later)
+    pub child-in : i < length (rowsAt st W (node .slot))
+    child-in = ltb-true _ _ (both-right (leb (getD (b .keys) (run .next) 0) (node .ceiling)) (ltb i (length (rowsAt st W (node .slot)))) later)
 
-    key-low : getD ks next 0 ≤ ceiling
-    key-low = leb-true _ _ (both-left (leb (getD ks next 0) ceiling) (ltb i (length (rowsAt st W s))) later)
+    key-low : getD (b .keys) (run .next) 0 ≤ node .ceiling
+    key-low = leb-true _ _ (both-left (leb (getD (b .keys) (run .next) 0) (node .ceiling)) (ltb i (length (rowsAt st W (node .slot)))) later)
 
     abbrev first : Task
-    first = taskAt op ps zs ks next
+    first = taskAt b (run .next)
 
-    firsts : drop next ts ≡ first ∷ drop (suc next) ts
-    firsts = task-next op ps zs ks next next-in (m .batch .lent)
+    firsts : drop (run .next) ts ≡ first ∷ drop (suc (run .next)) ts
+    firsts = task-next b (run .next) next-in (m .batch .lent)
 
-    pub round : Round st W₀ W h s op ps zs ks at ceiling c₀ i next changed c low
+    pub round : Round st W₀ W h node b run₀ i changed run
     round = by (m .rest) refl
       where
-        by : (r : List (Tree h)) → m .rest ≡ r → Round st W₀ W h s op ps zs ks at ceiling c₀ i next changed c low
+        by : (r : List (Tree h)) → m .rest ≡ r → Round st W₀ W h node b run₀ i changed run
         by [] e = absurd (omega (arith, child-in, long, ap length e, m .index))
         by (k ∷ r) e =
             record {
@@ -145,36 +147,36 @@ module _ {st : Settings} {W₀ W : List ℕ} {h s : ℕ} {op : Operation} {ps zs
               kid = k;
               kids = r;
               task = first;
-              tasks = drop (suc next) ts;
+              tasks = drop (suc (run .next)) ts;
               left = firsts;
               key = refl;
               le = key-low;
-              walking = subst (Here (k ∷ r)) firsts (subst (λ (x : List (Tree h)). Here x (drop next ts)) e (m .walking));
+              walking = subst (Here (k ∷ r)) firsts (subst (λ (x : List (Tree h)). Here x (drop (run .next) ts)) e (m .walking));
             }
 
   -- THE TEST IS NOT MET: the end
-  stop-by : (rest : List (Tree h)) (us : List Task) → m .rest ≡ rest → drop next ts ≡ us → roams ks next ceiling i (length (rowsAt st W s)) ≡ false → Stop ceiling rest us
+  stop-by : (rest : List (Tree h)) (us : List Task) → m .rest ≡ rest → drop (run .next) ts ≡ us → roams (b .keys) (run .next) (node .ceiling) i (length (rowsAt st W (node .slot))) ≡ false → Stop (node .ceiling) rest us
   stop-by [] us e f q = tt
   stop-by (k ∷ r) [] e f q = tt
-  stop-by (k ∷ r) (t ∷ us) e f q = by (decLt next (length ks)) (decLt ceiling (t .key))
+  stop-by (k ∷ r) (t ∷ us) e f q = by (decLt (run .next) (length (b .keys))) (decLt (node .ceiling) (t .key))
     where
-      by : Dec (next < length ks) → Dec (ceiling < t .key) → ceiling < t .key
+      by : Dec ((run .next) < length (b .keys)) → Dec ((node .ceiling) < t .key) → node .ceiling < t .key
       by d (yes g) = g
-      by (no d) (no g) = absurd (omega (arith, ap length (sym f ∙ task-none op ps zs ks next (omega (arith, d)))))
+      by (no d) (no g) = absurd (omega (arith, ap length (sym f ∙ task-none b (run .next) (omega (arith, d)))))
       by (yes d) (no g) =
-          let key : t .key ≡ getD ks next 0 = ap headKey (sym f ∙ task-next op ps zs ks next d (m .batch .lent)) in
+          let key : t .key ≡ getD (b .keys) (run .next) 0 = ap headKey (sym f ∙ task-next b (run .next) d (m .batch .lent)) in
           absurd
           (true≢false
-          (sym (lt-ltb i (length (rowsAt st W s)) (omega (arith, long, m .index, ap length e)))
-          ∙ roams-yes ks next ceiling i (length (rowsAt st W s)) d (omega (arith, key, g)) ∙ q))
+          (sym (lt-ltb i (length (rowsAt st W (node .slot))) (omega (arith, long, m .index, ap length e)))
+          ∙ roams-yes (b .keys) (run .next) (node .ceiling) i (length (rowsAt st W (node .slot))) d (omega (arith, key, g)) ∙ q))
 
-  pub round-end : (v : ChangeResult) {n : ℕ} → roams ks next ceiling i (length (rowsAt st W s)) ≡ false → n ≡ length (rowsAt st W s)
+  pub round-end : (v : ChangeResult) {n : ℕ} → roams (b .keys) (run .next) (node .ceiling) i (length (rowsAt st W (node .slot))) ≡ false → n ≡ length (rowsAt st W (node .slot))
       → v ≡ resultOf st changed n
-      → Came st W₀ W (suc h) s op ps zs ks at ceiling c₀ (record { next = next; result = v; counts = c; low = low })
+      → Came st W₀ W (suc h) node b run₀ (record { run = run; result = v })
   round-end v q en ev =
-      let f : Answers (suc h) (nodes st W₀) (nodes st W) t₀ (change st (suc h) ceiling t₀ (drop at ts) (runOf (nodes st W₀) c₀)) (drop next ts)
-      (resultOf st changed (length (m .before) + length (m .rest))) c =
-      finish (m .walking) (stop-by (m .rest) (drop next ts) refl refl q) refl in
+      let f : Answers (suc h) (nodes st W₀) (nodes st W) t₀ (change st (suc h) (node .ceiling) t₀ (drop (run₀ .next) ts) (runOf (nodes st W₀) (run₀ .counts))) (drop (run .next) ts)
+      (resultOf st changed (length (m .before) + length (m .rest))) (run .counts) =
+      finish (m .walking) (stop-by (m .rest) (drop (run .next) ts) refl refl q) refl in
       record {
         held = m .held;
         header = m .header;
@@ -188,18 +190,18 @@ module _ {st : Settings} {W₀ W : List ℕ} {h s : ℕ} {op : Operation} {ps zs
           counts = f .counts;
         };
         batch = m .batch;
-        lowest = m .lowest;
+        spared = m .spared;
       }
 
 -- A TURN OF THE CODE
 
-module _ {st : Settings} {W₀ W : List ℕ} {h s : ℕ} {op : Operation} {ps zs ks : List ℕ} {at ceiling : ℕ} {c₀ : Counts} {i next : ℕ} {changed : Bool} {c : Counts} {low : ℕ}
-    (r : Round st W₀ W h s op ps zs ks at ceiling c₀ i next changed c low) where
+module _ {st : Settings} {W₀ W : List ℕ} {h : ℕ} {node : Subtree} {b : Call} {run₀ : Run} {i : ℕ} {changed : Bool} {run : Run}
+    (r : Round st W₀ W h node b run₀ i changed run) where
   abbrev us : List Task
-  us = tasksOf op ps zs ks
+  us = tasksOf b
 
   abbrev root : Tree (suc h)
-  root = treeAt (nodes st W₀) (suc h) s
+  root = treeAt (nodes st W₀) (suc h) (node .slot)
 
   lim : InLimits st
   lim = r .here .held .shape .limits
@@ -207,31 +209,31 @@ module _ {st : Settings} {W₀ W : List ℕ} {h s : ℕ} {op : Operation} {ps zs
   abbrev z : Spot (Tree h)
   z = seek (greatestKey (suc h)) (r .task .key) (r .here .before) (r .kid) (r .kids)
 
-  rows-are : rowsAt st W s ≡ map (rowFor (suc h)) (reverseAux (r .here .before) (r .kid ∷ r .kids))
+  rows-are : rowsAt st W (node .slot) ≡ map (rowFor (suc h)) (reverseAux (r .here .before) (r .kid ∷ r .kids))
   rows-are = ap (λ (n : S.Node). n .rows) (all-head (r .walking .stroll .holds))
 
   same : reverseAux (z .before) (z .child ∷ z .after) ≡ reverseAux (r .here .before) (r .kid ∷ r .kids)
   same = seek-turned (greatestKey (suc h)) (r .task .key) (r .here .before) (r .kid) (r .kids)
 
   -- THE CHILD that the code finds is the model's
-  module _ {j : ℕ} (sought : Seeked (rowsAt st W s) i (getD ks next 0) j) where
+  module _ {j : ℕ} (sought : Seeked (rowsAt st W (node .slot)) i (getD (b .keys) (run .next) 0) j) where
     found-at : j ≡ length (z .before)
     found-at =
         let n : i ≡ 0 + length (map (rowFor (suc h)) (r .here .before)) = omega (arith, r .here .index, length-map (r .here .before) (rowFor (suc h))) in
-        let e : drop i (rowsAt st W s) ≡ map (rowFor (suc h)) (r .kid ∷ r .kids) =
+        let e : drop i (rowsAt st W (node .slot)) ≡ map (rowFor (suc h)) (r .kid ∷ r .kids) =
         ap (drop i) (rows-are ∙ map-turned (rowFor (suc h)) (r .here .before) (r .kid ∷ r .kids))
         ∙ ap (λ (x : ℕ). drop x (reverseAux (map (rowFor (suc h)) (r .here .before)) (map (rowFor (suc h)) (r .kid ∷ r .kids)))) n
         ∙ drop-turned 0 (map (rowFor (suc h)) (r .here .before)) (map (rowFor (suc h)) (r .kid ∷ r .kids)) in
         omega (
           arith,
           sought .is,
-          ap (λ (x : List Row). skip (getD ks next 0) x) e,
+          ap (λ (x : List Row). skip (getD (b .keys) (run .next) 0) x) e,
           ap (λ (x : ℕ). skip x (map (rowFor (suc h)) (r .kid ∷ r .kids))) (sym (r .key)),
           r .here .index,
           seek-skip h (r .task .key) (r .here .before) (r .kid) (r .kids),
         )
 
-    module _ {row : Row} (er : row ≡ getD (rowsAt st W s) j blank) where
+    module _ {row : Row} (er : row ≡ getD (rowsAt st W (node .slot)) j blank) where
       row-is : row ≡ rowFor (suc h) (z .child)
       row-is =
           let n : j ≡ 0 + length (map (rowFor (suc h)) (z .before)) = omega (arith, found-at, length-map (z .before) (rowFor (suc h))) in
@@ -239,17 +241,17 @@ module _ {st : Settings} {W₀ W : List ℕ} {h s : ℕ} {op : Operation} {ps zs
           ∙ ap (λ (x : ℕ). getD (reverseAux (map (rowFor (suc h)) (z .before)) (map (rowFor (suc h)) (z .child ∷ z .after))) x blank) n
           ∙ getD-turned 0 (map (rowFor (suc h)) (z .before)) (map (rowFor (suc h)) (z .child ∷ z .after)) blank
 
-      module _ {slot : ℕ} (es : slot ≡ childOf row) {reach : ℕ} (et : reach ≡ ceilingFor (row .key) (getD ks next 0) ceiling) where
+      module _ {slot : ℕ} (es : slot ≡ childOf row) {reach : ℕ} (et : reach ≡ ceilingFor (row .key) (getD (b .keys) (run .next) 0) (node .ceiling)) where
         abbrev top : ℕ
-        top = ceilingFor (greatestKey (suc h) (z .child)) (r .task .key) ceiling
+        top = ceilingFor (greatestKey (suc h) (z .child)) (r .task .key) (node .ceiling)
 
         reach-is : reach ≡ top
         reach-is =
-            et ∙ ap (λ (x : Row). ceilingFor (x .key) (getD ks next 0) ceiling) row-is
-            ∙ ap (λ (x : ℕ). ceilingFor (greatestKey (suc h) (z .child)) x ceiling) (sym (r .key))
+            et ∙ ap (λ (x : Row). ceilingFor (x .key) (getD (b .keys) (run .next) 0) (node .ceiling)) row-is
+            ∙ ap (λ (x : ℕ). ceilingFor (greatestKey (suc h) (z .child)) x (node .ceiling)) (sym (r .key))
 
-        ask : Asked st h top low (nodes st W) (z .child) (r .task ∷ r .tasks)
-        ask = asked lim (r .walking) (r .le) (r .here .lowest)
+        ask : Asked st h top (nodes st W) (z .child) (r .task ∷ r .tasks) (run .spare)
+        ask = asked lim (r .walking) (r .le) (r .here .spared)
 
         child-light : Light h (z .child)
         child-light = omega (arith, ask .small)
@@ -260,34 +262,34 @@ module _ {st : Settings} {W₀ W : List ℕ} {h s : ℕ} {op : Operation} {ps zs
             ∙ held-tree (nodes st W) h (z .child) child-light (ask .holds)
 
         -- WHAT THE CALL OF NODE CHANGE ASKS
-        pub child-call : Call st W h slot op ps zs ks next reach c low
-        child-call =
+        pub child-call : (g : ℕ) → ToChange st W h (record { height = g; slot = slot; ceiling = reach }) b run
+        child-call g =
             record {
               held = r .here .held;
-              asked = subst (λ (x : Tree h). Asked st h reach low (nodes st W) x (drop next us)) (sym read-child)
-                  (subst (λ (x : ℕ). Asked st h x low (nodes st W) (z .child) (drop next us)) (sym reach-is)
-                  (subst (λ (x : List Task). Asked st h top low (nodes st W) (z .child) x) (sym (r .left)) ask));
+              asked = subst (λ (x : Tree h). Asked st h reach (nodes st W) x (drop (run .next) us) (run .spare)) (sym read-child)
+                  (subst (λ (x : ℕ). Asked st h x (nodes st W) (z .child) (drop (run .next) us) (run .spare)) (sym reach-is)
+                  (subst (λ (x : List Task). Asked st h top (nodes st W) (z .child) x (run .spare)) (sym (r .left)) ask));
               batch = r .here .batch;
             }
 
         -- AFTER THE CALL
-        module _ {W₁ : List ℕ} {y : Reply} (came : Came st W W₁ h slot op ps zs ks next reach c y) where
+        module _ {W₁ : List ℕ} {g : ℕ} {y : Reply} (came : Came st W W₁ h (record { height = g; slot = slot; ceiling = reach }) b run y) where
           abbrev o : Outcome (Tree h)
-          o = change st h top (z .child) (r .task ∷ r .tasks) (runOf (nodes st W) c)
+          o = change st h top (z .child) (r .task ∷ r .tasks) (runOf (nodes st W) (run .counts))
 
           abbrev ns₁ : List S.Node
           ns₁ = nodes st W₁
 
           abbrev Tells : ℕ → Tree h → List Task → Type 0
           Tells n x ts =
-              Answers h (nodes st W) ns₁ x (change st h n x ts (runOf (nodes st W) c)) (drop (y .next) us) ((y .result)) (y .counts)
+              Answers h (nodes st W) ns₁ x (change st h n x ts (runOf (nodes st W) (run .counts))) (drop (y .run .next) us) ((y .result)) (y .run .counts)
 
           answers : Tells top (z .child) (r .task ∷ r .tasks)
           answers =
               subst (Tells top (z .child)) (r .left)
-              (subst (λ (n : ℕ). Tells n (z .child) (drop next us)) reach-is (subst (λ (x : Tree h). Tells reach x (drop next us)) read-child (came .answers)))
+              (subst (λ (n : ℕ). Tells n (z .child) (drop (run .next) us)) reach-is (subst (λ (x : Tree h). Tells reach x (drop (run .next) us)) read-child (came .answers)))
 
-          loosely : Loose h s ns₁ (z .before) (z .child) (o .node) (z .after)
+          loosely : Loose h (node .slot) ns₁ (z .before) (z .child) (o .node) (z .after)
           loosely = loose lim (r .walking) (r .le) answers
 
           small : length (flat h (back (z .before) ++ (o .node .items ++ joined (z .after)))) < 1048576
@@ -313,13 +315,13 @@ module _ {st : Settings} {W₀ W : List ℕ} {h s : ℕ} {op : Operation} {ps zs
           new-read : treeAt ns₁ h (childOf (rowFor (suc h) (z .child))) ≡ o .node
           new-read = ap (treeAt ns₁ h) (child-slot h (z .child) child-light ∙ sym (loosely .slot)) ∙ held-tree ns₁ h (o .node) new-light new-holds
 
-          rows-now : rowsAt st W₁ s ≡ map (rowFor (suc h)) (reverseAux (z .before) (z .child ∷ z .after))
+          rows-now : rowsAt st W₁ (node .slot) ≡ map (rowFor (suc h)) (reverseAux (z .before) (z .child ∷ z .after))
           rows-now = ap (λ (n : S.Node). n .rows) (loosely .parent)
 
           abbrev reading : Row → Tree h
           reading x = treeAt ns₁ h (childOf x)
 
-          kids-now : kidsAt ns₁ h s ≡ reverseAux (z .before) (o .node ∷ z .after)
+          kids-now : kidsAt ns₁ h (node .slot) ≡ reverseAux (z .before) (o .node ∷ z .after)
           kids-now =
               let swap : map reading (map (rowFor (suc h)) (reverseAux (z .before) (z .child ∷ z .after))) ≡ map reading (map (rowFor (suc h)) (reverseAux (z .before) (o .node ∷ z .after))) =
               ap (map reading) (map-turned (rowFor (suc h)) (z .before) (z .child ∷ z .after))
@@ -330,15 +332,15 @@ module _ {st : Settings} {W₀ W : List ℕ} {h s : ℕ} {op : Operation} {ps zs
               ∙ sym (ap (map reading) (map-turned (rowFor (suc h)) (z .before) (o .node ∷ z .after))) in
               ap (map reading) rows-now ∙ swap ∙ kids-read ns₁ h (reverseAux (z .before) (o .node ∷ z .after)) few (loosely .kids)
 
-          long-now : length (rowsAt st W₁ s) ≡ length (z .before) + suc (length (z .after))
+          long-now : length (rowsAt st W₁ (node .slot)) ≡ length (z .before) + suc (length (z .after))
           long-now =
               ap length rows-now ∙ length-map (reverseAux (z .before) (z .child ∷ z .after)) (rowFor (suc h)) ∙ length-reverseAux (z .before) (z .child ∷ z .after)
 
           -- WHAT SETTLING ASKS
-          pub pending : Pending st W₁ h s j (y .low) (y .result)
+          pub pending : Pending st W₁ h (node .slot) j (y .run .spare) (y .result)
           pending =
-              cross (Pend st W₁ h s j (y .low) (y .result)) (sym (before-is ns₁ h s (z .before) (o .node) (z .after) j kids-now found-at))
-              (sym (child-is ns₁ h s (z .before) (o .node) (z .after) j kids-now found-at)) (sym (after-is ns₁ h s (z .before) (o .node) (z .after) j kids-now found-at))
+              cross (Pend st W₁ h (node .slot) j (y .run .spare) (y .result)) (sym (before-is ns₁ h (node .slot) (z .before) (o .node) (z .after) j kids-now found-at))
+              (sym (child-is ns₁ h (node .slot) (z .before) (o .node) (z .after) j kids-now found-at)) (sym (after-is ns₁ h (node .slot) (z .before) (o .node) (z .after) j kids-now found-at))
               (record {
                 held = came .held;
                 within = omega (arith, found-at, long-now);
@@ -359,16 +361,16 @@ module _ {st : Settings} {W₀ W : List ℕ} {h s : ℕ} {op : Operation} {ps zs
                 small = small;
                 fit = loose-fit lim (r .walking) (r .le);
                 empty = answers .empty;
-                lowest = came .lowest;
+                spared = came .spared;
               })
 
           -- AND WHAT IT LEAVES
-          module _ {W₂ : List ℕ} {to : Standing} (done : Done st W₁ W₂ h s j (y .result) to) where
-            ended : Ended st W₁ W₂ h s (y .result) to (reverseAux (z .before) (o .node ∷ z .after)) (z .before) (o .node) (z .after)
+          module _ {W₂ : List ℕ} {to : Standing} (done : Done st W₁ W₂ h (node .slot) j (y .result) to) where
+            ended : Ended st W₁ W₂ h (node .slot) (y .result) to (reverseAux (z .before) (o .node ∷ z .after)) (z .before) (o .node) (z .after)
             ended =
-                cross (Ended st W₁ W₂ h s (y .result) to (reverseAux (z .before) (o .node ∷ z .after))) (before-is ns₁ h s (z .before) (o .node) (z .after) j kids-now found-at)
-                (child-is ns₁ h s (z .before) (o .node) (z .after) j kids-now found-at) (after-is ns₁ h s (z .before) (o .node) (z .after) j kids-now found-at)
-                (subst (λ (ys : List (Tree h)). Ended st W₁ W₂ h s (y .result) to ys (beforeAt ns₁ h s j) (childAt ns₁ h s j) (afterAt ns₁ h s j)) kids-now done)
+                cross (Ended st W₁ W₂ h (node .slot) (y .result) to (reverseAux (z .before) (o .node ∷ z .after))) (before-is ns₁ h (node .slot) (z .before) (o .node) (z .after) j kids-now found-at)
+                (child-is ns₁ h (node .slot) (z .before) (o .node) (z .after) j kids-now found-at) (after-is ns₁ h (node .slot) (z .before) (o .node) (z .after) j kids-now found-at)
+                (subst (λ (ys : List (Tree h)). Ended st W₁ W₂ h (node .slot) (y .result) to ys (beforeAt ns₁ h (node .slot) j) (childAt ns₁ h (node .slot) j) (afterAt ns₁ h (node .slot) j)) kids-now done)
 
             abbrev p : Place (Tree h)
             p = settle st (o .result) (z .before) (o .node) (z .after) (o .run .unused)
@@ -379,38 +381,38 @@ module _ {st : Settings} {W₀ W : List ℕ} {h s : ℕ} {op : Operation} {ps zs
                 ∙ ap (λ (f : List ℕ). settle st (o .result) (z .before) (o .node) (z .after) f) (answers .unused)
 
             abbrev There : ℕ → Bool → List Task → Counts → Type 0
-            There n ch ts d = Walking st h s ceiling (nodes st W₀) root (drop at us) c₀ (nodes st W₂) (p .before) (p .rest) n ch ts d
+            There n ch ts d = Walking st h (node .slot) (node .ceiling) (nodes st W₀) root (drop (run₀ .next) us) (run₀ .counts) (nodes st W₂) (p .before) (p .rest) n ch ts d
 
             turned : ((n : ℕ) × There n (changed || isChange (o .result)) (o .tasks) (o .run .counts))
             turned =
                 turn lim (r .walking) (r .le) answers
-                (subst (λ (x : Place (Tree h)). Settled h s ns₁ (nodes st W₂) (reverseAux (z .before) (o .node ∷ z .after)) x) place-is (ended .settled))
+                (subst (λ (x : Place (Tree h)). Settled h (node .slot) ns₁ (nodes st W₂) (reverseAux (z .before) (o .node ∷ z .after)) x) place-is (ended .settled))
 
-            pub round-less : next < y .next
+            pub round-less : run .next < y .run .next
             round-less =
                 omega (
                   arith,
                   fewer lim (r .walking) (r .le),
                   ap length (answers .left),
                   ap length (r .left),
-                  length-drop (y .next) us,
-                  length-drop next us,
+                  length-drop (y .run .next) us,
+                  length-drop (run .next) us,
                 )
 
             pub round-again : {changed′ : Bool} → changed′ ≡ (changed || isChange ((y .result)))
-                → Roaming st W₀ W₂ h s op ps zs ks at ceiling c₀ (to .at) (y .next) changed′ (y .counts) (to .low)
+                → Roaming st W₀ W₂ h node b run₀ (to .at) changed′ (record { next = y .run .next; counts = y .run .counts; spare = to .spare })
             round-again ec =
                 record {
                   held = ended .held;
                   header = ended .header ∙ came .header ∙ r .here .header;
-                  batch = came .batch;
-                  lowest = ended .lowest;
+                  batch = record { lent = came .batch .lent; short = came .batch .short; within = came .batch .within; few = came .batch .few };
+                  spared = ended .spared;
                   before = p .before;
                   rest = p .rest;
                   turns = turned .0;
                   index = ended .at ∙ ap (λ (x : Place (Tree h)). length (x .before)) place-is;
                   walking =
-                      subst (λ (b : Bool). There (turned .0) b (drop (y .next) us) (y .counts)) (sym (ec ∙ ap (λ (x : ChangeResult). changed || isChange x) (answers .result)))
-                      (subst (λ (ts : List Task). There (turned .0) (changed || isChange (o .result)) ts (y .counts)) (sym (answers .left))
+                      subst (λ (b : Bool). There (turned .0) b (drop (y .run .next) us) (y .run .counts)) (sym (ec ∙ ap (λ (x : ChangeResult). changed || isChange x) (answers .result)))
+                      (subst (λ (ts : List Task). There (turned .0) (changed || isChange (o .result)) ts (y .run .counts)) (sym (answers .left))
                       (subst (There (turned .0) (changed || isChange (o .result)) (o .tasks)) (sym (answers .counts)) (turned .1)));
                 }

@@ -8,7 +8,8 @@ use native.Mathlib.Nat.{not-suc-le-zero}
 use lib.ListN.{length, length-append, length-reverseAux}
 use borrow.Author.Tests.{le-leb, lt-leb}
 use Rattle.slots.specs.Nodes as S
-use Rattle.slots_find.specs.Search.{Lowest}
+use Rattle.tree_spare.specs.declared.Spare.{Spare}
+use Rattle.tree_spare.specs.Spared.{Spared}
 use Rattle.model.specs.declared.Settings.{Settings}
 use Rattle.model.specs.declared.Counts.{Counts}
 use Rattle.model.specs.Lists.{times, All}
@@ -122,8 +123,8 @@ module _ {st : Settings} {h s ceiling : ℕ} {ns₀ : List S.Node} {t₀ : Tree 
       all-left (flat h (spot .child .items)) (flat h (joined (spot .after)))
       (all-right (flat h (back (spot .before))) _ (subst (All Fits) (sym three) (w .fit)))
 
-  pub asked : {low : ℕ} → Lowest ns low → Asked st h reach low ns (spot .child) (t ∷ ts)
-  asked low =
+  pub asked : {spare : Spare} → Spared ns spare → Asked st h reach ns (spot .child) (t ∷ ts) spare
+  asked known =
       record {
         holds = child-holds among;
         apart = child-apart among;
@@ -135,7 +136,7 @@ module _ {st : Settings} {h s ceiling : ℕ} {ns₀ : List S.Node} {t₀ : Tree 
         fit = child-fit;
         sets = w .sets;
         empty = w .stroll .empty;
-        lowest = low;
+        spared = known;
       }
 
   -- WHAT IT LEAVES TO BE SETTLED
@@ -221,9 +222,9 @@ module _ {st : Settings} {h s ceiling : ℕ} {ns₀ : List S.Node} {t₀ : Tree 
           by (suc n) e g = (n, again n e)
 
 -- THE START
-pub start : {st : Settings} {h ceiling low : ℕ} {ns : List S.Node} {t : Tree (suc h)} {ts : List Task} (c : Counts) → Asked st (suc h) ceiling low ns t ts
+pub start : {st : Settings} {h ceiling : ℕ} {ns : List S.Node} {t : Tree (suc h)} {ts : List Task} {spare : Spare} (c : Counts) → Asked st (suc h) ceiling ns t ts spare
     → Walking st h (t .slot) ceiling ns t ts c ns [] (t .items) (length ts) false ts c
-start {st} {h} {ceiling} {low} {ns} {t} {ts} c a =
+start {st} {h} {ceiling} {ns} {t} {ts} c a =
     record {
       stroll = record { holds = a .holds; same = λ x. refl; frame = λ x u e. refl; empty = a .empty };
       holds₀ = a .holds;

@@ -6,44 +6,53 @@ use native.Mathlib.Omega.{arith}
 use lib.ListN.{length}
 use Rattle.slots.specs.Nodes.{Now, nodes, nth, splitNodes}
 use Rattle.slots.specs.Nodes as S
-use Rattle.slots_find.specs.Search.{Below, Lowest}
+use Rattle.slots_find.specs.Search.{Lowest}
 use Rattle.slots.proofs.Nodes.{length-nodes}
 use Rattle.model.specs.declared.Settings.{Settings}
-use Rattle.model.specs.Tree.{Tree}
+use Rattle.model.specs.Tree.{Tree, others}
 use Rattle.model.proofs.Lists.{all-head}
 use Rattle.model.proofs.Settles.{length-others}
 use Rattle.tree.specs.Bridge.{treeAt, unusedOf}
 use Rattle.tree.specs.Sums.{Sums}
 use Rattle.tree.proofs.SoundHolds.{slot-read}
+use Rattle.tree_spare.specs.declared.Spare.{Spare}
+use Rattle.tree_spare.specs.Spared.{Spared, ToTake}
+use Rattle.tree_spare.proofs.Spares.{spared-in, spared-taken}
 use Rattle.batch_share.proofs.Places.{node-used}
 use Rattle.batch_root.specs.Roots.{Splits, Halved, Moves, moved, Crowns, crowned}
-use Rattle.batch_root.proofs.Indexes.{pool-lowest, now-holds}
+use Rattle.batch_root.proofs.Indexes.{now-holds}
 use Rattle.batch_root.proofs.Halves as H
 
-module _ {st : Settings} {W₀ : List ℕ} {h low : ℕ} (pre : Splits st W₀ h low) where
+module _ {st : Settings} {W₀ : List ℕ} {h : ℕ} {spare : Spare} (pre : Splits st W₀ h spare) where
   abbrev ns : List S.Node
   ns = nodes st W₀
 
   abbrev t : Tree h
   t = treeAt (nodes st W₀) h 0
 
-  pub to-move : Moves st W₀ low
+  abbrev a : ℕ
+  a = spare .low
+
+  some : 0 < length (unusedOf ns)
+  some = omega (arith, pre .two)
+
+  a-nodes : a < st .nodes
+  a-nodes = spared-in st W₀ (pre .spared) some
+
+  a-in : a < length ns
+  a-in = omega (arith, length-nodes st W₀, a-nodes)
+
+  pub to-move : Moves st W₀ a
   to-move =
       record {
         held = pre .keeps .held;
         empty = pre .keeps .holds .blank;
-        lowest = pre .lowest;
+        slot = a-nodes;
+        free = pre .spared .lowest .here a-in;
         used = node-used ns h 0 t (ap (nth ns) (sym (slot-read ns h 0)) ∙ all-head (pre .keeps .holds .tree));
-        some = omega (arith, pre .two);
       }
 
-  abbrev a : ℕ
-  a = low
-
-  pub a-nodes : low < st .nodes
-  a-nodes = pool-lowest st W₀ low (pre .lowest) (omega (arith, pre .two))
-
-  module _ {W₁ : List ℕ} (mv : Now st W₀ W₁ (moved (nodes st W₀) low)) where
+  module _ {W₁ : List ℕ} (mv : Now st W₀ W₁ (moved (nodes st W₀) a)) where
     top : H.Top ns h t a
     top =
         record {
@@ -52,21 +61,28 @@ module _ {st : Settings} {W₀ : List ℕ} {h low : ℕ} (pre : Splits st W₀ h
           apart = pre .keeps .apart;
           bounded = record { small = pre .keeps .small; fit = pre .keeps .fit };
           empty = pre .keeps .holds .blank;
-          first = pre .lowest;
-          inside = omega (arith, length-nodes st W₀, a-nodes);
+          first = pre .spared .lowest;
+          inside = a-in;
         }
 
-    pub below-lower : Below (nodes st W₁) a
-    below-lower = subst (λ (z : List S.Node). Below z a) (sym (mv .is)) (H.moved-below top)
+    moved-unused : unusedOf (nodes st W₁) ≡ others (unusedOf ns)
+    moved-unused = ap unusedOf (mv .is) ∙ H.moved-unused top
 
-    module _ {b : ℕ} (lo : Lowest (nodes st W₁) b) where
-      pub b-nodes : b < st .nodes
-      b-nodes =
-          pool-lowest st W₁ b lo
-          (omega (arith, ap (λ (z : List S.Node). length (unusedOf z)) (mv .is), ap length (H.moved-unused top), length-others (unusedOf ns), pre .two))
+    pub lower-taken : ToTake st W₁ spare
+    lower-taken = spared-taken st W₀ (pre .spared) W₁ (mv .held) some moved-unused
+
+    module _ {rest : Spare} (lo : Spared (nodes st W₁) rest) where
+      abbrev b : ℕ
+      b = rest .low
+
+      more : 0 < length (unusedOf (nodes st W₁))
+      more = omega (arith, ap length moved-unused, length-others (unusedOf ns), pre .two)
+
+      b-nodes : b < st .nodes
+      b-nodes = spared-in st W₁ lo more
 
       second : Lowest (moved ns a) b
-      second = subst (λ (z : List S.Node). Lowest z b) (mv .is) lo
+      second = subst (λ (z : List S.Node). Lowest z b) (mv .is) (lo .lowest)
 
       b-in : b < length (moved ns a)
       b-in = omega (arith, length-nodes st W₁, ap length (mv .is), b-nodes)
@@ -100,14 +116,15 @@ module _ {st : Settings} {W₀ : List ℕ} {h low : ℕ} (pre : Splits st W₀ h
           crown-is : nodes st W₃ ≡ H.above top second b-in
           crown-is = cr .is ∙ ap (λ (z : List S.Node). crowned z h a b) split-is ∙ H.crowned-is top second b-in
 
-          pub below-upper : Below (nodes st W₃) b
-          below-upper = subst (λ (z : List S.Node). Below z b) (sym crown-is) (H.above-below top second b-in)
+          pub upper-taken : ToTake st W₃ rest
+          upper-taken =
+              spared-taken st W₁ lo W₃ (cr .held) more (ap unusedOf crown-is ∙ H.above-unused top second b-in ∙ ap others (sym moved-unused))
 
-          pub split-done : {r : ℕ} → Lowest (nodes st W₃) r → Halved st W₀ W₃ h r
+          pub split-done : {r : Spare} → Spared (nodes st W₃) r → Halved st W₀ W₃ h r
           split-done l =
               record {
                 becomes =
                     now-holds st W₀ W₃ (H.above top second b-in) _ (record { held = cr .held; is = crown-is; header = cr .header ∙ sp .header ∙ mv .header })
                     (H.above-holds top second b-in);
-                lowest = l;
+                spared = l;
               }

@@ -10,10 +10,9 @@ use lib.Seq.{getD-set-other}
 use Rattle.slots_raw.specs.declared.Row.{Row}
 use Rattle.slots.specs.Nodes.{nth, unused, withRows, splitNodes}
 use Rattle.slots.specs.Nodes as S
-use Rattle.slots_find.specs.Search.{Below, Lowest}
+use Rattle.slots_find.specs.Search.{Lowest}
 use Rattle.slots.proofs.Nodes.{nth-same}
 use Rattle.slots_raw.proofs.Over.{map-take, map-drop}
-use Rattle.slots_find.proofs.Finds.{below-set}
 use Rattle.model.specs.Lists.{times, All, none, one}
 use Rattle.model.specs.Tree.{Item, Tree, len, lowest, others}
 use Rattle.model.specs.Share.{half}
@@ -74,9 +73,6 @@ module _ {ns : List S.Node} {h : ℕ} {t : Tree h} {a : ℕ} (p : Top ns h t a) 
 
   moved-root : nth (moved ns a) 0 ≡ bare
   moved-root = put-second ns a (nth ns 0) 0 bare root-in
-
-  pub moved-below : Below (moved ns a) a
-  moved-below = below-set (set ns a (nth ns 0)) a 0 bare (below-set ns a a (nth ns 0) (p .first .before) (λ lt. used)) (λ lt. used)
 
   moved-blank : Blank (moved ns a)
   moved-blank = blank-set (set ns a (nth ns 0)) 0 bare (blank-set ns a (nth ns 0) (p .empty) (no-blank (nth ns 0) used)) (no-blank bare used)
@@ -154,9 +150,6 @@ module _ {ns : List S.Node} {h : ℕ} {t : Tree h} {a : ℕ} (p : Top ns h t a) 
 
     split-in : 0 < length split
     split-in = used-in split 0 split-used
-
-    split-below : Below split b
-    split-below = below-set (set (moved ns a) b high) b a low (below-set (moved ns a) b b high (second .before) (λ lt. whole-used)) (λ lt. whole-used)
 
     split-blank : Blank split
     split-blank = blank-set (set (moved ns a) b high) a low (blank-set (moved ns a) b high moved-blank (no-blank high whole-used)) (no-blank low whole-used)
@@ -256,13 +249,13 @@ module _ {ns : List S.Node} {h : ℕ} {t : Tree h} {a : ℕ} (p : Top ns h t a) 
           unused = others (others (unusedOf ns));
         }
 
+    pub above-unused : unusedOf above ≡ others (others (unusedOf ns))
+    above-unused = unused-same split 0 (nodeFor (suc h) parent) (kind-used (suc h)) split-used ∙ split-unused
+
     pub above-holds : HoldsIndex above (splitRoot h t (unusedOf ns))
     above-holds =
         subst (HoldsIndex above) (sym taken) (record {
           tree = holds;
-          unused = unused-same split 0 (nodeFor (suc h) parent) (kind-used (suc h)) split-used ∙ split-unused;
+          unused = above-unused;
           blank = blank-set split 0 (nodeFor (suc h) parent) split-blank (no-blank (nodeFor (suc h) parent) (kind-used (suc h)));
         })
-
-    pub above-below : Below above b
-    above-below = below-set split b 0 (nodeFor (suc h) parent) split-below (λ lt. kind-used (suc h))

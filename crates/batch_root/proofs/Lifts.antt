@@ -24,8 +24,7 @@ use Rattle.tree.proofs.Unused.{used-in, unused-released}
 use Rattle.batch_share.specs.Settle.{childAt}
 use Rattle.batch_share.proofs.Places.{node-used}
 use Rattle.batch_share.proofs.Puts.{put-first, put-other, blank-set}
-use Rattle.batch_root.specs.Batch.{indexAt}
-use Rattle.batch_root.specs.Roots.{lifted, collapsed}
+use Rattle.batch_root.specs.Roots.{indexAt, lifted, collapsed}
 use Rattle.batch_root.proofs.Sets.{no-blank, unused-same, kind-set}
 
 -- a list of one element

@@ -13,22 +13,24 @@ use Rattle.slots.proofs.Nodes.{length-nodes, fits-node, then, become}
 use Rattle.slots.proofs.Pairs.{kept-same, own-rows}
 use Rattle.model.specs.declared.Settings.{Settings}
 use Rattle.model.specs.Lists.{All}
-use Rattle.model.specs.Tree.{entriesOf}
+use Rattle.model.specs.Tree.{Index, entriesOf, release}
 use Rattle.model.specs.Sound.{Fits}
-use Rattle.tree.specs.Bridge.{childOf, kindFor, HoldsIndex}
+use Rattle.tree.specs.Bridge.{childOf, kindFor, unusedOf, HoldsIndex}
+use Rattle.tree_spare.specs.declared.Spare.{Spare}
+use Rattle.tree_spare.specs.Spared.{Spared, freeing}
+use Rattle.tree_spare.proofs.Spares.{spared-freed}
 use Rattle.batch_share.specs.Settle.{childAt}
 use Rattle.tree.proofs.SoundHolds.{slot-read}
-use Rattle.batch_root.specs.Batch.{indexAt}
-use Rattle.batch_root.specs.Roots.{Keeps, Becomes, Lone, lifted, collapsed}
+use Rattle.batch_root.specs.Roots.{indexAt, Keeps, Becomes, RootSettled, Lone, Lifted, lifted, collapsed}
 use Rattle.batch_root.proofs.Indexes.{index-read, now-holds}
 use Rattle.batch_root.proofs.Lifts.{none-left, raised, Single, child-root, child-in, raise, raise-holds}
 use Rattle.batch_root.proofs.Lifts.{lifted-list, lifted-apart, lifted-same, ends-leaf, ends-wide}
 
-single : {st : Settings} {W : List ℕ} {h : ℕ} → Lone st W h → Single (nodes st W) h
+single : {st : Settings} {W : List ℕ} {h : ℕ} {spare : Spare} → Lone st W h spare → Single (nodes st W) h
 single p = record { holds = p .keeps .holds .tree; apart = p .keeps .apart; one = p .one }
 
 -- ONE CHILD, named by the root's row
-module _ {st : Settings} {W₀ : List ℕ} {h : ℕ} (pre : Lone st W₀ h) {row : Row} (er : row ≡ getD (rowsAt st W₀ 0) 0 blank)
+module _ {st : Settings} {W₀ : List ℕ} {h : ℕ} {spare : Spare} (pre : Lone st W₀ h spare) {row : Row} (er : row ≡ getD (rowsAt st W₀ 0) 0 blank)
     {child : ℕ} (ec : child ≡ childOf row) where
   abbrev ns : List S.Node
   ns = nodes st W₀
@@ -58,8 +60,8 @@ module _ {st : Settings} {W₀ : List ℕ} {h : ℕ} (pre : Lone st W₀ h) {row
           room = omega (arith, bare, fits-node st W₂ child (kinded .held));
         }
 
-    pub child-lifted : {W₃ : List ℕ} → Now st W₂ W₃ (joinNodes (nodes st W₂) 0 child) → Becomes st W₀ W₃ (lifted ns h)
-    child-lifted {W₃} joined =
+    becomes-lifted : {W₃ : List ℕ} → Now st W₂ W₃ (joinNodes (nodes st W₂) 0 child) → Becomes st W₀ W₃ (lifted ns h)
+    becomes-lifted {W₃} joined =
         let f : List S.Node → List S.Node = λ ms. putKind ms 0 k in
         let g : List S.Node → List S.Node = λ ms. joinNodes ms 0 child in
         let first : List S.Node = putRows ns 0 (without (nth ns 0 .rows) 0 1) in
@@ -70,24 +72,37 @@ module _ {st : Settings} {W₀ : List ℕ} {h : ℕ} (pre : Lone st W₀ h) {row
         ∙ ap (λ (j : ℕ). put2 ns 0 (record { kind = kindFor h; rows = nth ns j .rows }) j unused) (sym slot-is)))
         (raise-holds (single pre) (pre .keeps .holds .blank))
 
+    pub child-lifted : {W₃ : List ℕ} {r : Spare} → Now st W₂ W₃ (joinNodes (nodes st W₂) 0 child) → r ≡ freeing spare child → Lifted st W₀ W₃ h r
+    child-lifted {W₃} joined e =
+        let b = becomes-lifted joined in
+        record {
+          becomes = b;
+          spared =
+              subst (Spared (nodes st W₃)) (sym e)
+              (spared-freed st W₀ (pre .spared) W₃ child (b .holds .unused ∙ ap (λ (j : ℕ). release j (unusedOf ns)) slot-is));
+        }
+
 -- THE LOOP
 
-pub record Sinking (st : Settings) (W₀ W : List ℕ) (h₀ h : ℕ) : Type 0 where
+pub record Sinking (st : Settings) (W₀ W : List ℕ) (h₀ h : ℕ) (spare : Spare) : Type 0 where
   pub keeps : Keeps st W (indexAt (nodes st W) h)
   pub header : take 4 W ≡ take 4 W₀
+  pub spared : Spared (nodes st W) spare
   pub same : collapsed (indexAt (nodes st W) h) ≡ collapsed (indexAt (nodes st W₀) h₀)
 
-pub sink-start : {st : Settings} {W : List ℕ} {h : ℕ} → Keeps st W (indexAt (nodes st W) h) → Sinking st W W h h
-sink-start k = record { keeps = k; header = refl; same = refl }
+pub sink-start : {st : Settings} {W : List ℕ} {h : ℕ} {spare : Spare} → Keeps st W (indexAt (nodes st W) h) → Spared (nodes st W) spare
+    → Sinking st W W h h spare
+sink-start k x = record { keeps = k; header = refl; spared = x; same = refl }
 
-module _ {st : Settings} {W₀ W : List ℕ} {h₀ h : ℕ} (m : Sinking st W₀ W h₀ h) where
+module _ {st : Settings} {W₀ W : List ℕ} {h₀ h : ℕ} {spare : Spare} (m : Sinking st W₀ W h₀ h spare) where
   -- a root with one child, of height g, gives way to it
-  pub lone : {g : ℕ} → h ≡ suc g → length (rowsAt st W 0) ≡ 1 → Lone st W g
-  lone e q = record { keeps = subst (λ (n : ℕ). Keeps st W (indexAt (nodes st W) n)) e (m .keeps); one = q }
+  pub lone : {g : ℕ} → h ≡ suc g → length (rowsAt st W 0) ≡ 1 → Lone st W g spare
+  lone e q = record { keeps = subst (λ (n : ℕ). Keeps st W (indexAt (nodes st W) n)) e (m .keeps); spared = m .spared; one = q }
 
-  pub sink-on : {g : ℕ} {W′ : List ℕ} → h ≡ suc g → length (rowsAt st W 0) ≡ 1 → Becomes st W W′ (lifted (nodes st W) g) → Sinking st W₀ W′ h₀ g
-  sink-on {g} {W′} e q b =
-      let p : Lone st W g = lone e q in
+  pub sink-on : {g : ℕ} {W′ : List ℕ} {r : Spare} → h ≡ suc g → length (rowsAt st W 0) ≡ 1 → Lifted st W W′ g r → Sinking st W₀ W′ h₀ g r
+  sink-on {g} {W′} e q done =
+      let b = done .becomes in
+      let p : Lone st W g spare = lone e q in
       let list = lifted-list (single p) in
       let small : length (entriesOf (lifted (nodes st W) g)) < 1048576 = omega (arith, ap length list, p .keeps .small) in
       let is : indexAt (nodes st W′) g ≡ lifted (nodes st W) g = index-read (nodes st W′) g (lifted (nodes st W) g) refl refl small (b .holds) in
@@ -96,15 +111,24 @@ module _ {st : Settings} {W₀ W : List ℕ} {h₀ h : ℕ} (m : Sinking st W₀
       record {
         keeps = subst (Keeps st W′) (sym is) now;
         header = b .header ∙ m .header;
+        spared = done .spared;
         same = ap collapsed is ∙ lifted-same (single p) ∙ ap (λ (n : ℕ). collapsed (indexAt (nodes st W) n)) (sym e) ∙ m .same;
       }
 
-  sunk : collapsed (indexAt (nodes st W) h) ≡ indexAt (nodes st W) h → Becomes st W₀ W (collapsed (indexAt (nodes st W₀) h₀))
-  sunk e = record { held = m .keeps .held; header = m .header; holds = subst (HoldsIndex (nodes st W)) (sym e ∙ m .same) (m .keeps .holds) }
+  sunk : collapsed (indexAt (nodes st W) h) ≡ indexAt (nodes st W) h
+      → RootSettled st W₀ W (collapsed (indexAt (nodes st W₀) h₀)) (record { height = h; spare = spare })
+  sunk e =
+      let is : indexAt (nodes st W) h ≡ collapsed (indexAt (nodes st W₀) h₀) = sym e ∙ m .same in
+      record {
+        becomes = record { held = m .keeps .held; header = m .header; holds = subst (HoldsIndex (nodes st W)) is (m .keeps .holds) };
+        height = ap (λ (x : Index). x .height) is;
+        spared = m .spared;
+      }
 
   -- a leaf, and a root of any other number of children, stay
-  pub sink-leaf : h ≡ 0 → Becomes st W₀ W (collapsed (indexAt (nodes st W₀) h₀))
+  pub sink-leaf : h ≡ 0 → RootSettled st W₀ W (collapsed (indexAt (nodes st W₀) h₀)) (record { height = h; spare = spare })
   sink-leaf e = sunk (subst (λ (n : ℕ). collapsed (indexAt (nodes st W) n) ≡ indexAt (nodes st W) n) (sym e) (ends-leaf (nodes st W)))
 
-  pub sink-wide : {g : ℕ} → h ≡ suc g → length (rowsAt st W 0) ≢ 1 → Becomes st W₀ W (collapsed (indexAt (nodes st W₀) h₀))
+  pub sink-wide : {g : ℕ} → h ≡ suc g → length (rowsAt st W 0) ≢ 1
+      → RootSettled st W₀ W (collapsed (indexAt (nodes st W₀) h₀)) (record { height = h; spare = spare })
   sink-wide {g} e q = sunk (subst (λ (n : ℕ). collapsed (indexAt (nodes st W) n) ≡ indexAt (nodes st W) n) (sym e) (ends-wide (nodes st W) g q))

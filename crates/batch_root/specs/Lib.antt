@@ -1,3 +1,2 @@
--- `Batch` says what a batch promises, `Roots` what each function on the root asks and answers.
-pub mod Batch
+-- `Roots` says what each function on the root asks and answers.
 pub mod Roots

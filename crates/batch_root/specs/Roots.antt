@@ -6,7 +6,6 @@ use mathlib.Core.List.{List, [], _∷_}
 use lib.ListN.{length, take, set}
 use Rattle.slots.specs.Nodes.{Held, nodes, nth, rowsAt, put2, withRows}
 use Rattle.slots.specs.Nodes as S
-use Rattle.slots_find.specs.Search.{Lowest}
 use Rattle.model.specs.declared.Settings.{Settings}
 use Rattle.model.specs.Lists.{All}
 use Rattle.model.specs.Tree.{Index, entriesOf, release}
@@ -18,10 +17,15 @@ use Rattle.model.specs.declared.ChangeResult.{ChangeResult}
 use Rattle.batch_share.specs.Settle.{childAt}
 use Rattle.tree.specs.Sums.{Sums}
 use Rattle.batch_share.specs.Weigh.{rowOver}
+use Rattle.tree_spare.specs.declared.Spare.{Spare}
+use Rattle.tree_spare.specs.Spared.{Spared}
 use Rattle.batch_root.specs.declared.Root.{Root}
-use Rattle.batch_root.specs.Batch.{indexAt}
 
 -- THE POOL BEFORE AND AFTER
+
+-- the index of height h that the nodes hold, with its root in slot 0
+abbrev pub indexAt : List S.Node → ℕ → Index
+indexAt ns h = record { height = h; root = treeAt ns h 0; unused = unusedOf ns }
 
 -- it holds x, no slot of it twice, and totals fit their places in a row
 pub record Keeps (st : Settings) (W : List ℕ) (x : Index) : Type 0 where
@@ -39,23 +43,23 @@ pub record Becomes (st : Settings) (W W′ : List ℕ) (x : Index) : Type 0 wher
 
 -- A ROOT THAT IS SPLIT
 
-pub record Splits (st : Settings) (W : List ℕ) (h low : ℕ) : Type 0 where
+pub record Splits (st : Settings) (W : List ℕ) (h : ℕ) (spare : Spare) : Type 0 where
   pub keeps : Keeps st W (indexAt (nodes st W) h)
-  pub lowest : Lowest (nodes st W) low
+  pub spared : Spared (nodes st W) spare
   -- one slot for each half
   pub two : 2 ≤ length (unusedOf (nodes st W))
 
-pub record Halved (st : Settings) (W W′ : List ℕ) (h r : ℕ) : Type 0 where
+pub record Halved (st : Settings) (W W′ : List ℕ) (h : ℕ) (r : Spare) : Type 0 where
   pub becomes : Becomes st W W′ (splitRoot h (treeAt (nodes st W) h 0) (unusedOf (nodes st W)))
-  pub lowest : Lowest (nodes st W′) r
+  pub spared : Spared (nodes st W′) r
 
 -- its rows go to a new node of its kind, in the lowest unused slot ..
 pub record Moves (st : Settings) (W : List ℕ) (low : ℕ) : Type 0 where
   pub held : Held st W
   pub empty : Blank (nodes st W)
-  pub lowest : Lowest (nodes st W) low
+  pub slot : low < st .nodes
+  pub free : nth (nodes st W) low .kind ≡ 0
   pub used : nth (nodes st W) 0 .kind ≢ 0
-  pub some : 0 < length (unusedOf (nodes st W))
 
 abbrev pub moved : List S.Node → ℕ → List S.Node
 moved ns new = put2 ns new (nth ns 0) 0 (withRows (nth ns 0) [])
@@ -74,33 +78,38 @@ crowned ns h lower upper = set ns 0 (record { kind = 2; rows = rowOver h lower (
 
 -- A ROOT AFTER A CALL, with its result
 
-pub record Returned (st : Settings) (W : List ℕ) (h low : ℕ) (v : ChangeResult) : Type 0 where
-  pub keeps : Keeps st W (indexAt (nodes st W) h)
-  pub lowest : Lowest (nodes st W) low
+pub record Returned (st : Settings) (W : List ℕ) (root : Root) (v : ChangeResult) : Type 0 where
+  pub keeps : Keeps st W (indexAt (nodes st W) (root .height))
+  pub spared : Spared (nodes st W) (root .spare)
   -- a split takes a slot for each half
   pub two : v ≡ Split → 2 ≤ length (unusedOf (nodes st W))
-  pub gone : v ≡ Remove → treeAt (nodes st W) h 0 .items ≡ []
+  pub gone : v ≡ Remove → treeAt (nodes st W) (root .height) 0 .items ≡ []
   -- one level more can be counted
-  pub bounded : h < 64
+  pub bounded : root .height < 64
 
 pub record RootSettled (st : Settings) (W W′ : List ℕ) (x : Index) (r : Root) : Type 0 where
   pub becomes : Becomes st W W′ x
   pub height : r .height ≡ x .height
-  pub lowest : Lowest (nodes st W′) (r .low)
+  pub spared : Spared (nodes st W′) (r .spare)
 
 abbrev pub SettledRoot : Settings → List ℕ → List ℕ → ℕ → ChangeResult → Root → Type 0
 SettledRoot st W W′ h v r = RootSettled st W W′ (settleRoot v h (treeAt (nodes st W) h 0) (unusedOf (nodes st W))) r
 
 -- A ROOT WITH ONE CHILD, of height h, gives way to it
 
-pub record Lone (st : Settings) (W : List ℕ) (h : ℕ) : Type 0 where
+pub record Lone (st : Settings) (W : List ℕ) (h : ℕ) (spare : Spare) : Type 0 where
   pub keeps : Keeps st W (indexAt (nodes st W) (suc h))
+  pub spared : Spared (nodes st W) spare
   pub one : length (rowsAt st W 0) ≡ 1
 
 abbrev pub lifted : List S.Node → ℕ → Index
 lifted ns h =
     let c = childAt ns h 0 0 in
     record { height = h; root = record { slot = 0; items = c .items }; unused = release (c .slot) (unusedOf ns) }
+
+pub record Lifted (st : Settings) (W W′ : List ℕ) (h : ℕ) (r : Spare) : Type 0 where
+  pub becomes : Becomes st W W′ (lifted (nodes st W) h)
+  pub spared : Spared (nodes st W′) r
 
 -- .. as long as there is one
 abbrev pub collapsed : Index → Index

@@ -5,18 +5,20 @@ ghost use Rattle.batch_root.specs.Roots.{Splits, Halved, Moves, moved, C
 use batch_share::weigh::weigh;
 use model::Settings;
 use slots::INTERIOR;
+use tree_spare::Spare;
+use tree_spare::after_taking;
 
-// Splits the root: the lower half takes the lowest unused slot, the upper half the next. The answer is the lowest one then. (The Rust's
+// Splits the root: the lower half takes the lowest unused slot, the upper half the next. The answer is what is unused then. (The Rust's
 // `split_root`.)
-pub fn split_root(pool: &mut [u8], st: Settings, height: usize, low: usize) -> usize
-    requires { ⌜ Splits st (words (now pool)) height low ⌝ }
+pub fn split_root(pool: &mut [u8], st: Settings, height: usize, spare: Spare) -> Spare
+    requires { ⌜ Splits st (words (now pool)) height spare ⌝ }
     ensures { λ r. ⌜ Halved st (words (now (pool .entry))) (words (now (pool .exit))) height r ⌝ }
 {
-    move_root(pool, st, low);
-    let upper = slots_find::lowest_unused(pool, st, low);
-    slots_pair::split(pool, st, low, upper);
-    crown(pool, st, height, low, upper);
-    slots_find::lowest_unused(pool, st, upper)
+    move_root(pool, st, spare.low);
+    let rest = after_taking(pool, st, spare);
+    slots_pair::split(pool, st, spare.low, rest.low);
+    crown(pool, st, height, spare.low, rest.low);
+    after_taking(pool, st, rest)
 }
 
 // Moves the rows of the root to a new node of its kind, in the lowest unused slot.

@@ -4,9 +4,10 @@ mod shrink; // a root with one child gives way to it
 
 pub use grow::split_root;
 pub use shrink::collapse;
+use tree_spare::Spare;
 
-// How high the root is, and the lowest unused slot, or the number of slots where there is none.
+// How high the root is, and the unused slots.
 pub struct Root {
     pub height: usize,
-    pub low: usize,
+    pub spare: Spare,
 }

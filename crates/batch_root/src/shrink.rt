@@ -1,26 +1,32 @@
 // A root with one child gives way to it, level by level.
 ghost use Rattle.words.specs.Words.{words};
 ghost use Rattle.slots.specs.Nodes.{nodes};
-ghost use Rattle.batch_root.specs.Batch.{indexAt};
-ghost use Rattle.batch_root.specs.Roots.{Keeps, Becomes, Lone, lifted, collapsed};
+ghost use Rattle.tree_spare.specs.Spared.{Spared};
+ghost use Rattle.batch_root.specs.Roots.{indexAt, Keeps, RootSettled, Lone, Lifted, collapsed};
+use crate::Root;
 use model::Settings;
+use tree_spare::Spare;
+use tree_spare::after_freeing;
 
 // While an interior root has one child, moves that child into slot 0.
-pub fn collapse(pool: &mut [u8], st: Settings, height: usize)
-    requires { ⌜ Keeps st (words (now pool)) (indexAt (nodes st (words (now pool))) height) ⌝ }
-    ensures { λ _. let W = words (now (pool .entry)) in ⌜ Becomes st W (words (now (pool .exit))) (collapsed (indexAt (nodes st W) height)) ⌝ }
+pub fn collapse(pool: &mut [u8], st: Settings, root: Root) -> Root
+    requires { ⌜ Keeps st (words (now pool)) (indexAt (nodes st (words (now pool))) (root .height)) ⌝ }
+    requires { ⌜ Spared (nodes st (words (now pool))) (root .spare) ⌝ }
+    ensures { λ r. let W = words (now (pool .entry)) in ⌜ RootSettled st W (words (now (pool .exit))) (collapsed (indexAt (nodes st W) (root .height))) r ⌝ }
 {
-    let mut h = height;
-    while h != 0 && slots::count(pool, st, 0) == 1 {
-        h -= 1;
-        lift_child(pool, st, h);
+    let mut height = root.height;
+    let mut spare = root.spare;
+    while height != 0 && slots::count(pool, st, 0) == 1 {
+        height -= 1;
+        spare = lift_child(pool, st, height, spare);
     }
+    Root { height, spare }
 }
 
-// Moves the root's only child, of height `below`, into slot 0.
-fn lift_child(pool: &mut [u8], st: Settings, below: usize)
-    requires { ⌜ Lone st (words (now pool)) below ⌝ }
-    ensures { λ _. let W = words (now (pool .entry)) in ⌜ Becomes st W (words (now (pool .exit))) (lifted (nodes st W) below) ⌝ }
+// Moves the root's only child, of height `below`, into slot 0. The answer is what is unused then.
+fn lift_child(pool: &mut [u8], st: Settings, below: usize, spare: Spare) -> Spare
+    requires { ⌜ Lone st (words (now pool)) below spare ⌝ }
+    ensures { λ r. let W = words (now (pool .entry)) in ⌜ Lifted st W (words (now (pool .exit))) below r ⌝ }
 {
     let row = slots::row_at(pool, st, 0, 0);
     let child = tree_rows::child_of(row);
@@ -28,4 +34,5 @@ fn lift_child(pool: &mut [u8], st: Settings, below: usize)
     slots::remove_row(pool, st, 0, 0);
     slots::set_kind(pool, st, 0, k);
     slots_pair::join(pool, st, 0, child);
+    after_freeing(spare, child)
 }

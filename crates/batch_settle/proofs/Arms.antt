@@ -8,7 +8,6 @@ use lib.ListN.{length, take, set, length-map, length-take, length-reverseAux}
 use Rattle.slots_raw.specs.declared.Row.{Row}
 use Rattle.slots.specs.Nodes.{nodes, nth, unused, putRows, Now}
 use Rattle.slots.specs.Nodes as S
-use Rattle.slots_find.specs.Search.{Lowest}
 use Rattle.slots.proofs.Nodes.{length-nodes, nth-rows, nth-put}
 use Rattle.model.specs.declared.Settings.{Settings}
 use Rattle.model.specs.Lists.{one, hit}
@@ -33,12 +32,14 @@ use Rattle.batch_share.proofs.Zips.{set-turned, map-turned}
 use Rattle.batch_share.proofs.Places.{node-used, kids-apart, family-kids, family-long}
 use Rattle.batch_share.proofs.Parents.{unused-rows}
 use Rattle.batch_share.proofs.Recast.{owns, then-settled}
-use Rattle.batch_share.proofs.Puts.{low-same}
+use Rattle.tree_spare.specs.declared.Spare.{Spare}
+use Rattle.tree_spare.specs.Spared.{Spared}
+use Rattle.tree_spare.proofs.Spares.{spared-same}
 use Rattle.batch_share.proofs.Focuses.{poise-focus}
 use Rattle.batch_share.proofs.Readings.{to-readings, from-readings}
 use Rattle.batch_share.proofs.Shares.{ended-by}
 
-module _ {st : Settings} {W : List ℕ} {h s i low : ℕ} {v : ChangeResult} (t : Pending st W h s i low v) where
+module _ {st : Settings} {W : List ℕ} {h s i : ℕ} {spare : Spare} {v : ChangeResult} (t : Pending st W h s i spare v) where
   abbrev ns : List S.Node
   ns = nodes st W
 
@@ -162,7 +163,7 @@ module _ {st : Settings} {W : List ℕ} {h s i low : ℕ} {v : ChangeResult} (t 
             empty = first-settled .empty;
           }
 
-      poise : Poise st W₁ h s i low (takes v) b c a
+      poise : Poise st W₁ h s i spare (takes v) b c a
       poise =
           record {
             family = family;
@@ -178,24 +179,24 @@ module _ {st : Settings} {W : List ℕ} {h s i low : ℕ} {v : ChangeResult} (t 
               length-map (nth ns s .rows) (λ r. treeAt ns h (childOf r)),
             );
             room = omega (arith, t .room, ap length same-unused);
-            lowest = low-same st W W₁ low (t .lowest) same-unused;
+            spared = spared-same st W (t .spared) W₁ same-unused;
           }
 
       -- what a result's own function is asked
-      pub arm-asks : (u : ChangeResult) → v ≡ u → Poised st W₁ h s i low (takes u) × Says st u (childAt (nodes st W₁) h s i)
+      pub arm-asks : (u : ChangeResult) → v ≡ u → Poised st W₁ h s i spare (takes u) × Says st u (childAt (nodes st W₁) h s i)
       arm-asks u e =
-          subst (λ (x : ChangeResult). Poised st W₁ h s i low (takes x) × Says st x (childAt (nodes st W₁) h s i)) e
-          (to-readings (poise-focus poise) (λ p q r. Poise st W₁ h s i low (takes v) p q r × Says st v q) (poise, t .says))
+          subst (λ (x : ChangeResult). Poised st W₁ h s i spare (takes x) × Says st x (childAt (nodes st W₁) h s i)) e
+          (to-readings (poise-focus poise) (λ p q r. Poise st W₁ h s i spare (takes v) p q r × Says st v q) (poise, t .says))
 
       from-kids : (W₂ : List ℕ) (q : Place (Tree h)) → Came st W W₂ h s kids q → Came st W W₂ h s (kidsAt ns h s) q
       from-kids W₂ q m = subst (λ (ks : List (Tree h)). Came st W W₂ h s ks q) kids-are m
 
       -- a result that leaves the place as it is
-      pub arm-stays : (u : ChangeResult) (r : Standing) → v ≡ u → settle st u b c a (unusedOf ns) ≡ first → r .at ≡ i → r .low ≡ low → Done st W W₁ h s i v r
+      pub arm-stays : (u : ChangeResult) (r : Standing) → v ≡ u → settle st u b c a (unusedOf ns) ≡ first → r .at ≡ i → r .spare ≡ spare → Done st W W₁ h s i v r
       arm-stays u r e q ea el =
           subst (λ (x : ChangeResult). Done st W W₁ h s i x r) (sym e)
           (ended-by st W W₁ h s u r b c a first q (from-kids W₁ first (record { held = w .held; header = w .header; settled = first-settled }))
-          (ea ∙ place) (subst (Lowest (nodes st W₁)) (sym el) (poise .lowest)))
+          (ea ∙ place) (subst (Spared (nodes st W₁)) (sym el) (poise .spared)))
 
       -- a result that goes on from there
       pub arm-ends : (u : ChangeResult) (W₂ : List ℕ) (r : Standing) → v ≡ u → Done st W₁ W₂ h s i u r → Done st W W₂ h s i v r
@@ -214,4 +215,4 @@ module _ {st : Settings} {W : List ℕ} {h s i low : ℕ} {v : ChangeResult} (t 
                 (subst (Settled h s (nodes st W₁) (nodes st W₂) kids) same (x .settled)) (λ z. refl);
           } in
           subst (λ (z : ChangeResult). Done st W W₂ h s i z r) (sym e)
-          (ended-by st W W₂ h s u r b c a q refl (from-kids W₂ q m) (x .at ∙ ap (λ (p : Place (Tree h)). length (p .before)) same) (x .lowest))
+          (ended-by st W W₂ h s u r b c a q refl (from-kids W₂ q m) (x .at ∙ ap (λ (p : Place (Tree h)). length (p .before)) same) (x .spared))

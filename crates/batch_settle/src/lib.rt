@@ -9,6 +9,7 @@ use batch_share::weigh::child_at;
 use batch_share::weigh::renew;
 use model::ChangeResult;
 use model::Settings;
+use tree_spare::Spare;
 
 // Settles the result `v` of child `i` of node `s`, whose children have height `below`. (The Rust's `process_interior_change_result`.)
 pub fn settle_child(
@@ -18,18 +19,18 @@ pub fn settle_child(
     s: usize,
     i: usize,
     v: ChangeResult,
-    low: usize,
+    spare: Spare,
 ) -> Standing
-    requires { ⌜ Pending st (words (now pool)) below s i low v ⌝ }
+    requires { ⌜ Pending st (words (now pool)) below s i spare v ⌝ }
     ensures { λ r. ⌜ Done st (words (now (pool .entry))) (words (now (pool .exit))) below s i v r ⌝ }
 {
     let c = child_at(pool, st, below, s, i);
     renew(pool, st, below, s, i, c);
     match v {
-        ChangeResult::Unchanged => Standing { at: i, low },
-        ChangeResult::Remove => take_out(pool, st, below, s, i, low),
-        ChangeResult::Absorb => absorb(pool, st, below, s, i, low),
-        ChangeResult::Changed => Standing { at: i, low },
-        ChangeResult::Split => share_out(pool, st, below, s, i, low),
+        ChangeResult::Unchanged => Standing { at: i, spare },
+        ChangeResult::Remove => take_out(pool, st, below, s, i, spare),
+        ChangeResult::Absorb => absorb(pool, st, below, s, i, spare),
+        ChangeResult::Changed => Standing { at: i, spare },
+        ChangeResult::Split => share_out(pool, st, below, s, i, spare),
     }
 }

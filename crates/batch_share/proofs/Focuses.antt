@@ -6,7 +6,6 @@ use Prim.Native.Nat.{ℕ, suc, _+_, _≤_, _<_}
 use native.Mathlib.Omega.{arith}
 use lib.ListN.{length, length-map, length-reverseAux}
 use Rattle.slots.specs.Nodes.{nodes, nth, rowsAt}
-use Rattle.slots_find.specs.Search.{Lowest}
 use Rattle.slots.proofs.Nodes.{length-nodes, fits-node}
 use Rattle.model.specs.declared.Settings.{Settings}
 use Rattle.model.specs.Lists.{hit, times}
@@ -18,6 +17,7 @@ use Rattle.tree.specs.Bridge.{rowFor, nodeFor}
 use Rattle.tree.specs.Bridge as T
 use Rattle.tree.proofs.Cells.{cells-rest}
 use Rattle.tree.proofs.Unused.{used-in}
+use Rattle.tree_spare.specs.declared.Spare.{Spare}
 use Rattle.batch_share.specs.Settle.{inner}
 use Rattle.batch_share.specs.Weigh.{Sits}
 use Rattle.batch_share.specs.Steps.{Bounded, Focus, Poise}
@@ -25,7 +25,6 @@ use Rattle.batch_share.proofs.Weights.{bounded-left, bounded-right}
 use Rattle.batch_share.proofs.Zips.{map-turned}
 use Rattle.batch_share.proofs.Places.{node-used, family-rows, family-long, parent-in}
 use Rattle.batch_share.proofs.Recast.{owns, family-counts}
-use Rattle.batch_share.proofs.Puts.{lowest-in}
 
 module _ {st : Settings} {W : List ℕ} {h s i : ℕ} {b : List (Tree h)} {c : Tree h} {a : List (Tree h)} (t : Focus st W h s i b c a) where
   pub own-focus : nth (nodes st W) (c .slot) ≡ nodeFor h c
@@ -71,9 +70,6 @@ module _ {st : Settings} {W : List ℕ} {h s i : ℕ} {b : List (Tree h)} {c : T
 
 -- among stocked siblings
 
-module _ {st : Settings} {W : List ℕ} {h s i low k : ℕ} {b : List (Tree h)} {c : Tree h} {a : List (Tree h)} (t : Poise st W h s i low k b c a) where
+module _ {st : Settings} {W : List ℕ} {h s i : ℕ} {spare : Spare} {k : ℕ} {b : List (Tree h)} {c : Tree h} {a : List (Tree h)} (t : Poise st W h s i spare k b c a) where
   pub poise-focus : Focus st W h s i b c a
   poise-focus = record { family = t .family; at = t .at }
-
-  pub poise-new : (x : ℕ) → Lowest (nodes st W) x → 1 ≤ k → x < st .nodes
-  poise-new x l some = omega (arith, lowest-in (nodes st W) x l (omega (arith, t .room)), length-nodes st W)

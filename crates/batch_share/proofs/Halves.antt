@@ -4,25 +4,27 @@ use mathlib.Core.Logic.{_≢_}
 use mathlib.Core.List.{List, [], _∷_, _++_, map, reverseAux, append-nil}
 use Prim.Native.Nat.{ℕ, suc, _+_, _/_, _<_}
 use native.Mathlib.Omega.{arith}
-use native.Mathlib.Decide.{decLt}
 use lib.ListN.{length, take, drop, set, length-map, take-append-drop}
 use lib.Seq.{getD-set-other}
 use Rattle.slots_raw.specs.declared.Row as R
 use Rattle.slots.specs.Nodes.{nodes, nth, rowsAt, unused, putRows, putIn, put2, withRows, lower, splitNodes, Room, Now}
 use Rattle.slots.specs.Nodes as S
-use Rattle.slots_find.specs.Search.{Below, Lowest}
+use Rattle.slots_find.specs.Search.{Lowest}
 use Rattle.slots.proofs.Nodes.{length-nodes}
 use Rattle.slots_raw.proofs.Over.{map-take, map-drop}
 use Rattle.slots.proofs.Pads.{length-putIn}
 use Rattle.model.specs.declared.Settings.{Settings}
-use Rattle.model.specs.Lists.{none, one, times}
+use Rattle.model.specs.Lists.{none, one}
 use Rattle.model.specs.Tree.{Tree, len, lowest, others}
 use Rattle.model.specs.Share.{Place, half, halved}
 use Rattle.model.proofs.Lists.{hit-same, hit-other}
-use Rattle.model.proofs.Settles.{halves-same, times-taken}
+use Rattle.model.proofs.Settles.{halves-same}
 use Rattle.tree.specs.Bridge.{rowFor, nodeFor, unusedOf}
 use Rattle.tree.proofs.Cells.{kind-used}
-use Rattle.tree.proofs.Unused.{unused-taken, unused-kept, used-none, unused-once}
+use Rattle.tree.proofs.Unused.{unused-taken, unused-kept}
+use Rattle.tree_spare.specs.declared.Spare.{Spare}
+use Rattle.tree_spare.specs.Spared.{Spared, ToTake}
+use Rattle.tree_spare.proofs.Spares.{spared-in, spared-taken}
 use Rattle.batch_share.specs.Settle.{kidsAt, Settled}
 use Rattle.tree.specs.Sums.{Weighs}
 use Rattle.batch_share.specs.Weigh.{rowOver, Renews, renewed}
@@ -32,21 +34,25 @@ use Rattle.batch_share.proofs.Zips.{set-turned, putIn-turned, map-turne
 use Rattle.batch_share.proofs.Places.{parent-in, came-kids}
 use Rattle.batch_share.proofs.Parents.{renews-after, renewed-after}
 use Rattle.batch_share.proofs.Recast.{recast-settles}
-use Rattle.batch_share.proofs.Puts.{put-first, put-second, put-other, length-put, blank-set, below-from}
-use Rattle.batch_share.proofs.Focuses.{poise-focus, poise-new, own-focus, focus-away, focus-used, parent-used}
+use Rattle.batch_share.proofs.Puts.{put-first, put-second, put-other, length-put, blank-set}
+use Rattle.batch_share.proofs.Focuses.{poise-focus, own-focus, focus-away, focus-used, parent-used}
 use Rattle.batch_share.proofs.Focuses.{focus-in, focus-long, focus-bounded, focus-rows, focus-place, focus-next}
 
 -- y is what the code has for the child's slot
-module _ {st : Settings} {W : List ℕ} {h s i x : ℕ} {b : List (Tree h)} {c : Tree h} {a : List (Tree h)} (poise : Poise st W h s i x 1 b c a)
+module _ {st : Settings} {W : List ℕ} {h s i : ℕ} {spare : Spare} {b : List (Tree h)} {c : Tree h} {a : List (Tree h)} (poise : Poise st W h s i spare 1 b c a)
     (y : ℕ) (ey : y ≡ c .slot) where
   t : Focus st W h s i b c a
   t = poise-focus poise
 
+  -- the slot that the upper half takes
+  abbrev x : ℕ
+  x = spare .low
+
   lo : Lowest (nodes st W) x
-  lo = poise .lowest
+  lo = poise .spared .lowest
 
   pub new-in : x < st .nodes
-  new-in = poise-new poise x lo (omega arith)
+  new-in = spared-in st W (poise .spared) (poise .room)
 
   abbrev ns : List S.Node
   ns = nodes st W
@@ -206,23 +212,14 @@ module _ {st : Settings} {W : List ℕ} {h s i x : ℕ} {b : List (Tree h)} {c :
             let e : nodes st W₃ ≡ putRows halfNodes s newRows = q .is ∙ ap (λ (ms : List S.Node). putRows ms s newRows) nodes-half in
             record { held = u .held; header = q .header ∙ w .header; settled = rw e half-settles }
 
-        -- the slots from x down are in use
-        none-low : (z : ℕ) → Dec (z < x) → z < x + 1 → times z (others (unusedOf ns)) ≡ 0
-        none-low z (yes l) g = omega (arith, times-taken z (unusedOf ns) (poise .room), used-none ns z (lo .before z l))
-        none-low z (no l) g =
-            let here : z ≡ lowest (unusedOf ns) = omega (arith, model-new) in
-            omega (arith, times-taken z (unusedOf ns) (poise .room), unused-once ns z, hit-same z (lowest (unusedOf ns)) here)
+        pub half-taken : ToTake st W₃ spare
+        half-taken = spared-taken st W (poise .spared) W₃ (u .held) (poise .room) (half-came .settled .unused)
 
-        pub half-below : Below (nodes st W₃) (x + 1)
-        half-below =
-            below-from (nodes st W₃) (x + 1) (omega (arith, new-in, length-nodes st W₃))
-            (λ z g. ap (times z) (half-came .settled .unused) ∙ none-low z (decLt z x) g)
-
-        pub half-left : (r : ℕ) → Lowest (nodes st W₃) r
+        pub half-left : (r : Spare) → Spared (nodes st W₃) r
             → Left st W W₃ h s r (kidsAt ns h s) (halfPlace (halved c (lowest (unusedOf ns)) .lower) (halved c (lowest (unusedOf ns)) .upper))
         half-left r l =
             record {
               came = came-kids (t .family) W₃ _
                   (subst (λ (z : ℕ). Came st W W₃ h s (reverseAux b (c ∷ a)) (halfPlace (halved c z .lower) (halved c z .upper))) model-new half-came);
-              lowest = l;
+              spared = l;
             }

@@ -8,6 +8,7 @@ use Rattle.model.specs.declared.Settings.{Settings}
 use Rattle.model.specs.Tree.{Tree}
 use Rattle.model.specs.Share.{Row, stay}
 use Rattle.tree.specs.Bridge.{unusedOf}
+use Rattle.tree_spare.specs.declared.Spare.{Spare}
 use Rattle.batch_share.specs.Settle.{kidsAt, childAt, beforeAt, afterAt}
 use Rattle.batch_share.specs.Steps.{Focus, Beside, Left, Rowed}
 use Rattle.batch_share.proofs.Places.{family-kids, kids-came, before-is, child-is, after-is}
@@ -37,14 +38,14 @@ module _ {st : Settings} {W : List ℕ} {h s i : ℕ} {b : List (Tree h)} {c : T
         (subst (λ (u : List (Tree h)). F u (childAt (nodes st W) h s i) (afterAt (nodes st W) h s i)) read-before x))
 
   -- a row made of the child, those after it and the unused slots
-  pub from-rowed : (W₁ : List ℕ) (low : ℕ) (G : Tree h → List (Tree h) → List ℕ → Row (Tree h)) (us : List ℕ) → unusedOf (nodes st W) ≡ us
-      → Rowed st W W₁ h s i low (G (childAt (nodes st W) h s i) (afterAt (nodes st W) h s i) (unusedOf (nodes st W)))
-      → Left st W W₁ h s low (reverseAux b (c ∷ a)) (stay b (G c a us))
-  from-rowed W₁ low G us e x =
-      let y : Left st W W₁ h s low (kidsAt (nodes st W) h s) (stay b (G c a (unusedOf (nodes st W)))) =
-      from-readings (λ u v w. Left st W W₁ h s low (kidsAt (nodes st W) h s) (stay u (G v w (unusedOf (nodes st W))))) x in
-      subst (λ (vs : List ℕ). Left st W W₁ h s low (reverseAux b (c ∷ a)) (stay b (G c a vs))) e
-      (record { came = kids-came (t .family) W₁ (stay b (G c a (unusedOf (nodes st W)))) (y .came); lowest = y .lowest })
+  pub from-rowed : (W₁ : List ℕ) (spare : Spare) (G : Tree h → List (Tree h) → List ℕ → Row (Tree h)) (us : List ℕ) → unusedOf (nodes st W) ≡ us
+      → Rowed st W W₁ h s i spare (G (childAt (nodes st W) h s i) (afterAt (nodes st W) h s i) (unusedOf (nodes st W)))
+      → Left st W W₁ h s spare (reverseAux b (c ∷ a)) (stay b (G c a us))
+  from-rowed W₁ spare G us e x =
+      let y : Left st W W₁ h s spare (kidsAt (nodes st W) h s) (stay b (G c a (unusedOf (nodes st W)))) =
+      from-readings (λ u v w. Left st W W₁ h s spare (kidsAt (nodes st W) h s) (stay u (G v w (unusedOf (nodes st W))))) x in
+      subst (λ (vs : List ℕ). Left st W W₁ h s spare (reverseAux b (c ∷ a)) (stay b (G c a vs))) e
+      (record { came = kids-came (t .family) W₁ (stay b (G c a (unusedOf (nodes st W)))) (y .came); spared = y .spared })
 
 -- TWO NEIGHBOURS
 

@@ -10,7 +10,6 @@ use lib.Dec.{ltb}
 use lib.ListN.{length, length-reverseAux}
 use borrow.Author.Tests.{lt-ltb, le-ltb, le-leb, lt-leb, not-true, not-false}
 use Rattle.slots.specs.Nodes.{nodes, rowsAt}
-use Rattle.slots_find.specs.Search.{Lowest}
 use Rattle.model.specs.declared.Settings.{Settings}
 use Rattle.model.specs.Lists.{one}
 use Rattle.model.specs.Tree.{Node, Tree, len, lowest, others}
@@ -23,19 +22,21 @@ use Rattle.model.specs.Change.{settle}
 use Rattle.batch_share.specs.Settle.{kidsAt, childAt, afterAt, Settled, Ended}
 use Rattle.model.specs.declared.ChangeResult.{ChangeResult}
 use Rattle.model.specs.declared.ChangeResult.the-variants.{Split}
+use Rattle.tree_spare.specs.declared.Spare.{Spare}
+use Rattle.tree_spare.specs.Spared.{Spared}
+use Rattle.tree_spare.proofs.Spares.{spared-same}
 use Rattle.batch_share.specs.declared.Standing.{Standing}
 use Rattle.batch_share.specs.Weigh.{Sits}
 use Rattle.batch_share.specs.Steps.{Family, Focus, Poise, Poised, Beside, Neighbours, Came, Left, Parted, Rowed, roomIn}
 use Rattle.batch_share.proofs.Places.{family-long, came-kids, kids-came}
-use Rattle.batch_share.proofs.Puts.{low-same}
 use Rattle.batch_share.proofs.Turns.{recut-family, recut-then, sits-lower}
 use Rattle.batch_share.proofs.Cuts.{recut-back, recut-on}
 use Rattle.batch_share.proofs.Focuses.{poise-focus, focus-long}
 use Rattle.batch_share.proofs.Readings.{read-child, to-readings, from-rowed, lower-focus, to-two, from-two, back-beside, on-beside}
 
 -- WHERE NOTHING IS DONE, the place stays
-module _ {st : Settings} {W : List ℕ} {h s i low k : ℕ} {b : List (Tree h)} {c : Tree h} {a : List (Tree h)} (t : Poise st W h s i low k b c a) where
-  pub stays-left : Left st W W h s low (kidsAt (nodes st W) h s) (record { before = b; rest = c ∷ a; unused = unusedOf (nodes st W) })
+module _ {st : Settings} {W : List ℕ} {h s i : ℕ} {spare : Spare} {k : ℕ} {b : List (Tree h)} {c : Tree h} {a : List (Tree h)} (t : Poise st W h s i spare k b c a) where
+  pub stays-left : Left st W W h s spare (kidsAt (nodes st W) h s) (record { before = b; rest = c ∷ a; unused = unusedOf (nodes st W) })
   stays-left =
       record {
         came = came-kids (t .family) W _ (record {
@@ -43,21 +44,21 @@ module _ {st : Settings} {W : List ℕ} {h s i low k : ℕ} {b : List (Tree h)} 
           header = refl;
           settled = record { holds = t .family .holds; unused = refl; frame = λ x u z. refl; empty = t .family .empty };
         });
-        lowest = t .lowest;
+        spared = t .spared;
       }
 
 -- WHERE A PLACE IS LEFT, the model's is
 
 pub ended-by : (st : Settings) (W W₁ : List ℕ) (h s : ℕ) (v : ChangeResult) (r : Standing) (b : List (Tree h)) (c : Tree h) (a : List (Tree h))
     (q : Place (Tree h)) → settle st v b c a (unusedOf (nodes st W)) ≡ q → Came st W W₁ h s (kidsAt (nodes st W) h s) q
-    → r .at ≡ length (q .before) → Lowest (nodes st W₁) (r .low) → Ended st W W₁ h s v r (kidsAt (nodes st W) h s) b c a
+    → r .at ≡ length (q .before) → Spared (nodes st W₁) (r .spare) → Ended st W W₁ h s v r (kidsAt (nodes st W) h s) b c a
 ended-by st W W₁ h s v r b c a q e m at l =
     record {
       held = m .held;
       header = m .header;
       settled = subst (Settled h s (nodes st W) (nodes st W₁) (kidsAt (nodes st W) h s)) (sym e) (m .settled);
       at = at ∙ ap (λ (p : Place (Tree h)). length (p .before)) (sym e);
-      lowest = l;
+      spared = l;
     }
 
 -- a step back moves no child
@@ -101,16 +102,16 @@ module _ (st : Settings) {X : Type 0} where
 
 -- A CHILD THAT FITS stays, one that does not is split
 
-module _ {st : Settings} {W : List ℕ} {h s i low k : ℕ} {b : List (Tree h)} {c : Tree h} {a : List (Tree h)} (t : Poise st W h s i low k b c a) where
-  pub fits-rowed : len c ≤ st .order → Left st W W h s low (kidsAt (nodes st W) h s) (stay b (followed (splitOver st c (unusedOf (nodes st W))) a))
+module _ {st : Settings} {W : List ℕ} {h s i : ℕ} {spare : Spare} {k : ℕ} {b : List (Tree h)} {c : Tree h} {a : List (Tree h)} (t : Poise st W h s i spare k b c a) where
+  pub fits-rowed : len c ≤ st .order → Left st W W h s spare (kidsAt (nodes st W) h s) (stay b (followed (splitOver st c (unusedOf (nodes st W))) a))
   fits-rowed le =
-      subst (λ (q : Row (Tree h)). Left st W W h s low (kidsAt (nodes st W) h s) (stay b q)) (sym (split-fits st c a (unusedOf (nodes st W)) le)) (stays-left t)
+      subst (λ (q : Row (Tree h)). Left st W W h s spare (kidsAt (nodes st W) h s) (stay b q)) (sym (split-fits st c a (unusedOf (nodes st W)) le)) (stays-left t)
 
-  pub fits-next : len c ≤ st .order → Left st W W h s low (kidsAt (nodes st W) h s) (stay b (shareNext st c a (unusedOf (nodes st W))))
+  pub fits-next : len c ≤ st .order → Left st W W h s spare (kidsAt (nodes st W) h s) (stay b (shareNext st c a (unusedOf (nodes st W))))
   fits-next le =
-      subst (λ (q : Row (Tree h)). Left st W W h s low (kidsAt (nodes st W) h s) (stay b q)) (sym (next-fits st c a (unusedOf (nodes st W)) le)) (stays-left t)
+      subst (λ (q : Row (Tree h)). Left st W W h s spare (kidsAt (nodes st W) h s) (stay b q)) (sym (next-fits st c a (unusedOf (nodes st W)) le)) (stays-left t)
 
-  pub over-rowed : (W₁ : List ℕ) (r : ℕ) → st .order < len c
+  pub over-rowed : (W₁ : List ℕ) (r : Spare) → st .order < len c
       → Left st W W₁ h s r (kidsAt (nodes st W) h s)
       (record {
         before = b;
@@ -123,7 +124,7 @@ module _ {st : Settings} {W : List ℕ} {h s i low k : ℕ} {b : List (Tree h)} 
 
 -- WITH THE NEXT: i is a child of others behind it
 
-module _ {st : Settings} {W : List ℕ} {h s i low k : ℕ} {b : List (Tree h)} {c n : Tree h} {a : List (Tree h)} (t : Poise st W h s i low k b c (n ∷ a))
+module _ {st : Settings} {W : List ℕ} {h s i : ℕ} {spare : Spare} {k : ℕ} {b : List (Tree h)} {c n : Tree h} {a : List (Tree h)} (t : Poise st W h s i spare k b c (n ∷ a))
     (over : st .order < len c) where
   pair-on : Beside st W h s i b c n a
   pair-on = on-beside (poise-focus t)
@@ -147,7 +148,7 @@ module _ {st : Settings} {W : List ℕ} {h s i low k : ℕ} {b : List (Tree h)} 
       (from-two pair-on (λ u v w z. Came st W W₁ h s (kidsAt (nodes st W) h s)
       (record { before = u; rest = shareOn st v w .lower ∷ shareOn st v w .upper ∷ z; unused = unusedOf (nodes st W) })) m)
 
-  on-poise : (W₁ : List ℕ) → Came st W W₁ h s (reverseAux b (c ∷ n ∷ a)) onPlace → Poise st W₁ h s i low k b (shareOn st c n .lower) (shareOn st c n .upper ∷ a)
+  on-poise : (W₁ : List ℕ) → Came st W W₁ h s (reverseAux b (c ∷ n ∷ a)) onPlace → Poise st W₁ h s i spare k b (shareOn st c n .lower) (shareOn st c n .upper ∷ a)
   on-poise W₁ m =
       let f : Family st W₁ h s (reverseAux b (shareOn st c n .lower ∷ shareOn st c n .upper ∷ a)) = recut-family pair-on (recut-on st h c n limits) W₁ m in
       record {
@@ -164,39 +165,39 @@ module _ {st : Settings} {W : List ℕ} {h s i low k : ℕ} {b : List (Tree h)} 
           length-reverseAux b (c ∷ n ∷ a),
         );
         room = omega (arith, t .room, ap length (m .settled .unused));
-        lowest = low-same st W W₁ low (t .lowest) (m .settled .unused);
+        spared = spared-same st W (t .spared) W₁ (m .settled .unused);
       }
 
-  on-left : (W₁ W₂ : List ℕ) (r : ℕ) → Came st W W₁ h s (reverseAux b (c ∷ n ∷ a)) onPlace
+  on-left : (W₁ W₂ : List ℕ) (r : Spare) → Came st W W₁ h s (reverseAux b (c ∷ n ∷ a)) onPlace
       → Rowed st W₁ W₂ h s i r (followed (splitOver st (childAt (nodes st W₁) h s i) (unusedOf (nodes st W₁))) (afterAt (nodes st W₁) h s i))
       → Left st W W₂ h s r (kidsAt (nodes st W) h s) (stay b (shareNext st c (n ∷ a) (unusedOf (nodes st W))))
   on-left W₁ W₂ r m x =
       let y = from-rowed (poise-focus (on-poise W₁ m)) W₂ r (λ u w us. followed (splitOver st u us) w) (unusedOf (nodes st W)) (m .settled .unused) x in
       subst (λ (q : Row (Tree h)). Left st W W₂ h s r (kidsAt (nodes st W) h s) (stay b q)) (sym (next-over st c n a (unusedOf (nodes st W)) over))
-      (record { came = came-kids (t .family) W₂ _ (recut-then pair-on (recut-on st h c n limits) W₁ W₂ _ m (y .came)); lowest = y .lowest })
+      (record { came = came-kids (t .family) W₂ _ (recut-then pair-on (recut-on st h c n limits) W₁ W₂ _ m (y .came)); spared = y .spared })
 
 -- of any child: whether others are behind it, the number of rows tells
-module _ {st : Settings} {W : List ℕ} {h s i low k : ℕ} {b : List (Tree h)} {c : Tree h} where
-  pub next-none : (a : List (Tree h)) (W₁ : List ℕ) (r : ℕ) → Poise st W h s i low k b c a → i + 1 ≡ length (rowsAt st W s)
+module _ {st : Settings} {W : List ℕ} {h s i : ℕ} {spare : Spare} {k : ℕ} {b : List (Tree h)} {c : Tree h} where
+  pub next-none : (a : List (Tree h)) (W₁ : List ℕ) (r : Spare) → Poise st W h s i spare k b c a → i + 1 ≡ length (rowsAt st W s)
       → Left st W W₁ h s r (kidsAt (nodes st W) h s) (stay b (followed (splitOver st c (unusedOf (nodes st W))) a))
       → Left st W W₁ h s r (kidsAt (nodes st W) h s) (stay b (shareNext st c a (unusedOf (nodes st W))))
   next-none [] W₁ r t e x =
       subst (λ (q : Row (Tree h)). Left st W W₁ h s r (kidsAt (nodes st W) h s) (stay b q)) (sym (next-last st c (unusedOf (nodes st W)))) x
   next-none (n ∷ a) W₁ r t e x = absurd (omega (arith, focus-long (poise-focus t), e))
 
-  pub next-asks : (a : List (Tree h)) → Poise st W h s i low k b c a → st .order < len c → (i + 1 ≡ length (rowsAt st W s) → ⊥)
+  pub next-asks : (a : List (Tree h)) → Poise st W h s i spare k b c a → st .order < len c → (i + 1 ≡ length (rowsAt st W s) → ⊥)
       → Neighbours st W h s i × ((st .minimum ≤ len (childAt (nodes st W) h s i)) × (len (childAt (nodes st W) h s (i + 1)) ≤ st .order))
   next-asks [] t over ne = absurd (ne (omega (arith, focus-long (poise-focus t))))
   next-asks (n ∷ a) t over ne = on-asks t over
 
-  pub next-poised : (a : List (Tree h)) (W₁ : List ℕ) → Poise st W h s i low k b c a → st .order < len c → (i + 1 ≡ length (rowsAt st W s) → ⊥)
-      → Parted st W W₁ h s i (shareOn st (childAt (nodes st W) h s i) (childAt (nodes st W) h s (i + 1))) → Poised st W₁ h s i low k
+  pub next-poised : (a : List (Tree h)) (W₁ : List ℕ) → Poise st W h s i spare k b c a → st .order < len c → (i + 1 ≡ length (rowsAt st W s) → ⊥)
+      → Parted st W W₁ h s i (shareOn st (childAt (nodes st W) h s i) (childAt (nodes st W) h s (i + 1))) → Poised st W₁ h s i spare k
   next-poised [] W₁ t over ne m = absurd (ne (omega (arith, focus-long (poise-focus t))))
   next-poised (n ∷ a) W₁ t over ne m =
       let q = on-poise t over W₁ (on-came t over W₁ m) in
-      to-readings (poise-focus q) (λ u v w. Poise st W₁ h s i low k u v w) q
+      to-readings (poise-focus q) (λ u v w. Poise st W₁ h s i spare k u v w) q
 
-  pub next-left : (a : List (Tree h)) (W₁ W₂ : List ℕ) (r : ℕ) → Poise st W h s i low k b c a → st .order < len c → (i + 1 ≡ length (rowsAt st W s) → ⊥)
+  pub next-left : (a : List (Tree h)) (W₁ W₂ : List ℕ) (r : Spare) → Poise st W h s i spare k b c a → st .order < len c → (i + 1 ≡ length (rowsAt st W s) → ⊥)
       → Parted st W W₁ h s i (shareOn st (childAt (nodes st W) h s i) (childAt (nodes st W) h s (i + 1)))
       → Rowed st W₁ W₂ h s i r (followed (splitOver st (childAt (nodes st W₁) h s i) (unusedOf (nodes st W₁))) (afterAt (nodes st W₁) h s i))
       → Left st W W₂ h s r (kidsAt (nodes st W) h s) (stay b (shareNext st c a (unusedOf (nodes st W))))
@@ -205,7 +206,7 @@ module _ {st : Settings} {W : List ℕ} {h s i low k : ℕ} {b : List (Tree h)} 
 
 -- WITH THE PREVIOUS
 
-module _ {st : Settings} {W : List ℕ} {h s i low k : ℕ} {b : List (Tree h)} {p c : Tree h} {a : List (Tree h)} (t : Poise st W h s i low k (p ∷ b) c a) where
+module _ {st : Settings} {W : List ℕ} {h s i : ℕ} {spare : Spare} {k : ℕ} {b : List (Tree h)} {p c : Tree h} {a : List (Tree h)} (t : Poise st W h s i spare k (p ∷ b) c a) where
   pair-back : Beside st W h s (i - 1) b p c a
   pair-back = back-beside (poise-focus t)
 
@@ -228,7 +229,7 @@ module _ {st : Settings} {W : List ℕ} {h s i low k : ℕ} {b : List (Tree h)} 
       (record { before = u; rest = shareBack st v w .lower ∷ shareBack st v w .upper ∷ z; unused = unusedOf (nodes st W) })) m)
 
   back-poise : (W₁ : List ℕ) → Came st W W₁ h s (reverseAux b (p ∷ c ∷ a)) backPlace
-      → Poise st W₁ h s i low k (shareBack st p c .lower ∷ b) (shareBack st p c .upper) a
+      → Poise st W₁ h s i spare k (shareBack st p c .lower ∷ b) (shareBack st p c .upper) a
   back-poise W₁ m =
       let f : Family st W₁ h s (reverseAux b (shareBack st p c .lower ∷ shareBack st p c .upper ∷ a)) =
       recut-family pair-back (recut-back st h p c (t .family .held .shape .limits)) W₁ m in
@@ -246,17 +247,17 @@ module _ {st : Settings} {W : List ℕ} {h s i low k : ℕ} {b : List (Tree h)} 
           length-reverseAux b (p ∷ c ∷ a),
         );
         room = omega (arith, t .room, ap length (m .settled .unused));
-        lowest = low-same st W W₁ low (t .lowest) (m .settled .unused);
+        spared = spared-same st W (t .spared) W₁ (m .settled .unused);
       }
 
   -- the walk steps back
   back-ended : (W₁ W₂ : List ℕ) (r : Standing) → roomIn st (p ∷ b) ≡ true → r .at ≡ i - 1 → Came st W W₁ h s (reverseAux b (p ∷ c ∷ a)) backPlace
-      → Rowed st W₁ W₂ h s i (r .low) (shareNext st (childAt (nodes st W₁) h s i) (afterAt (nodes st W₁) h s i) (unusedOf (nodes st W₁)))
+      → Rowed st W₁ W₂ h s i (r .spare) (shareNext st (childAt (nodes st W₁) h s i) (afterAt (nodes st W₁) h s i) (unusedOf (nodes st W₁)))
       → Ended st W W₂ h s Split r (kidsAt (nodes st W) h s) (p ∷ b) c a
   back-ended W₁ W₂ r room ea m x =
-      let y = from-rowed (poise-focus (back-poise W₁ m)) W₂ (r .low) (λ u w vs. shareNext st u w vs) (unusedOf (nodes st W)) (m .settled .unused) x in
+      let y = from-rowed (poise-focus (back-poise W₁ m)) W₂ (r .spare) (λ u w vs. shareNext st u w vs) (unusedOf (nodes st W)) (m .settled .unused) x in
       let z = came-kids (t .family) W₂ _ (recut-then pair-back (recut-back st h p c (t .family .held .shape .limits)) W₁ W₂ _ m (y .came)) in
-      ended-by st W W₂ h s Split r (p ∷ b) c a _ (out-back st b p c a (unusedOf (nodes st W)) room) (step-back z) (ea ∙ omega (arith, t .at)) (y .lowest)
+      ended-by st W W₂ h s Split r (p ∷ b) c a _ (out-back st b p c a (unusedOf (nodes st W)) room) (step-back z) (ea ∙ omega (arith, t .at)) (y .spared)
 
 -- of any child: whether one with room is before it, a test tells
 module _ {st : Settings} {W : List ℕ} {h s i : ℕ} {c : Tree h} {a : List (Tree h)} where
@@ -275,32 +276,32 @@ module _ {st : Settings} {W : List ℕ} {h s i : ℕ} {c : Tree h} {a : List (Tr
       below (yes l) q = rw (lt-ltb n (st .order) l, lt-leb (st .order) (len p) (omega (arith, l, q))) refl
       below (no l) q = let g : st .order ≤ n = omega arith in rw (le-ltb n (st .order) g, le-leb (st .order) (len p) (omega (arith, g, q))) refl
 
-module _ {st : Settings} {W : List ℕ} {h s i low k : ℕ} {c : Tree h} {a : List (Tree h)} where
-  pub out-some : (b : List (Tree h)) → Poise st W h s i low k b c a → roomIn st b ≡ true → 0 < i
+module _ {st : Settings} {W : List ℕ} {h s i : ℕ} {spare : Spare} {k : ℕ} {c : Tree h} {a : List (Tree h)} where
+  pub out-some : (b : List (Tree h)) → Poise st W h s i spare k b c a → roomIn st b ≡ true → 0 < i
   out-some [] t room = absurd (true≢false (sym room))
   out-some (p ∷ b) t room = omega (arith, t .at)
 
-  pub out-asks : (b : List (Tree h)) → Poise st W h s i low k b c a → roomIn st b ≡ true → st .order < len c
+  pub out-asks : (b : List (Tree h)) → Poise st W h s i spare k b c a → roomIn st b ≡ true → st .order < len c
       → Neighbours st W h s (i - 1) × ((len (childAt (nodes st W) h s (i - 1)) ≤ st .order) × (st .minimum ≤ len (childAt (nodes st W) h s (i - 1 + 1))))
   out-asks [] t room over = absurd (true≢false (sym room))
   out-asks (p ∷ b) t room over = back-asks t over
 
-  pub out-poised : (b : List (Tree h)) (W₁ : List ℕ) → Poise st W h s i low k b c a → roomIn st b ≡ true
-      → Parted st W W₁ h s (i - 1) (shareBack st (childAt (nodes st W) h s (i - 1)) (childAt (nodes st W) h s (i - 1 + 1))) → Poised st W₁ h s i low k
+  pub out-poised : (b : List (Tree h)) (W₁ : List ℕ) → Poise st W h s i spare k b c a → roomIn st b ≡ true
+      → Parted st W W₁ h s (i - 1) (shareBack st (childAt (nodes st W) h s (i - 1)) (childAt (nodes st W) h s (i - 1 + 1))) → Poised st W₁ h s i spare k
   out-poised [] W₁ t room m = absurd (true≢false (sym room))
   out-poised (p ∷ b) W₁ t room m =
       let q = back-poise t W₁ (back-came t W₁ m) in
-      to-readings (poise-focus q) (λ u v w. Poise st W₁ h s i low k u v w) q
+      to-readings (poise-focus q) (λ u v w. Poise st W₁ h s i spare k u v w) q
 
-  pub out-ended : (b : List (Tree h)) (W₁ W₂ : List ℕ) (r : Standing) → Poise st W h s i low k b c a → roomIn st b ≡ true → r .at ≡ i - 1
+  pub out-ended : (b : List (Tree h)) (W₁ W₂ : List ℕ) (r : Standing) → Poise st W h s i spare k b c a → roomIn st b ≡ true → r .at ≡ i - 1
       → Parted st W W₁ h s (i - 1) (shareBack st (childAt (nodes st W) h s (i - 1)) (childAt (nodes st W) h s (i - 1 + 1)))
-      → Rowed st W₁ W₂ h s i (r .low) (shareNext st (childAt (nodes st W₁) h s i) (afterAt (nodes st W₁) h s i) (unusedOf (nodes st W₁)))
+      → Rowed st W₁ W₂ h s i (r .spare) (shareNext st (childAt (nodes st W₁) h s i) (afterAt (nodes st W₁) h s i) (unusedOf (nodes st W₁)))
       → Ended st W W₂ h s Split r (kidsAt (nodes st W) h s) b c a
   out-ended [] W₁ W₂ r t room ea m x = absurd (true≢false (sym room))
   out-ended (p ∷ b) W₁ W₂ r t room ea m x = back-ended t W₁ W₂ r room ea (back-came t W₁ m) x
 
-  pub out-stayed : (b : List (Tree h)) (W₁ : List ℕ) (r : Standing) → Poise st W h s i low k b c a → roomIn st b ≡ false → r .at ≡ i
-      → Left st W W₁ h s (r .low) (kidsAt (nodes st W) h s) (stay b (shareNext st c a (unusedOf (nodes st W))))
+  pub out-stayed : (b : List (Tree h)) (W₁ : List ℕ) (r : Standing) → Poise st W h s i spare k b c a → roomIn st b ≡ false → r .at ≡ i
+      → Left st W W₁ h s (r .spare) (kidsAt (nodes st W) h s) (stay b (shareNext st c a (unusedOf (nodes st W))))
       → Ended st W W₁ h s Split r (kidsAt (nodes st W) h s) b c a
   out-stayed b W₁ r t room ea x =
-      ended-by st W W₁ h s Split r b c a _ (out-stays st b c a (unusedOf (nodes st W)) room) (x .came) (ea ∙ t .at) (x .lowest)
+      ended-by st W W₁ h s Split r b c a _ (out-stays st b c a (unusedOf (nodes st W)) room) (x .came) (ea ∙ t .at) (x .spared)

@@ -7,7 +7,6 @@ use lib.ListN.{length, take, drop, getD}
 use Rattle.slots_raw.specs.Slots.{blank}
 use Rattle.slots.specs.Nodes.{Held, nodes, nth, rowsAt}
 use Rattle.slots.specs.Nodes as S
-use Rattle.slots_find.specs.Search.{Lowest}
 use Rattle.model.specs.declared.Settings.{Settings}
 use Rattle.model.specs.Lists.{All}
 use Rattle.model.specs.Tree.{Tree, slots}
@@ -18,6 +17,8 @@ use Rattle.model.specs.Change.{settle}
 use Rattle.model.specs.Sound.{Stocked, Fits}
 use Rattle.model.specs.Contracts.{flat, joined, back, Says, takes}
 use Rattle.tree.specs.Bridge.{treeAt, childOf, nodeFor, cellsOf, Stands, Holds, unusedOf, Blank, Apart, Frame}
+use Rattle.tree_spare.specs.declared.Spare.{Spare}
+use Rattle.tree_spare.specs.Spared.{Spared}
 use Rattle.batch_share.specs.declared.Standing.{Standing}
 
 -- an interior node in slot s with these children
@@ -47,7 +48,7 @@ pub record Loose (h s : ℕ) (ns : List S.Node) (before : List (Tree h)) (old ne
   pub slot : new .slot ≡ old .slot
   pub apart : Apart (suc h) (inner h s (reverseAux before (new ∷ after)))
 
-pub record Pend (st : Settings) (W : List ℕ) (h s i low : ℕ) (v : ChangeResult) (before : List (Tree h)) (new : Tree h) (after : List (Tree h)) : Type 0 where
+pub record Pend (st : Settings) (W : List ℕ) (h s i : ℕ) (spare : Spare) (v : ChangeResult) (before : List (Tree h)) (new : Tree h) (after : List (Tree h)) : Type 0 where
   pub held : Held st W
   pub within : i < length (rowsAt st W s)
   -- a split adds a row
@@ -63,10 +64,10 @@ pub record Pend (st : Settings) (W : List ℕ) (h s i low : ℕ) (v : ChangeResu
   pub small : length (flat h (back before ++ (new .items ++ joined after))) < 1048576
   pub fit : All Fits (flat h (back before ++ (new .items ++ joined after)))
   pub empty : Blank (nodes st W)
-  pub lowest : Lowest (nodes st W) low
+  pub spared : Spared (nodes st W) spare
 
-abbrev pub Pending : Settings → List ℕ → ℕ → ℕ → ℕ → ℕ → ChangeResult → Type 0
-Pending st W h s i low v = Pend st W h s i low v (beforeAt (nodes st W) h s i) (childAt (nodes st W) h s i) (afterAt (nodes st W) h s i)
+abbrev pub Pending : Settings → List ℕ → ℕ → ℕ → ℕ → Spare → ChangeResult → Type 0
+Pending st W h s i spare v = Pend st W h s i spare v (beforeAt (nodes st W) h s i) (childAt (nodes st W) h s i) (afterAt (nodes st W) h s i)
 
 -- WHAT IS ANSWERED
 
@@ -83,7 +84,7 @@ pub record Ended (st : Settings) (W W′ : List ℕ) (h s : ℕ) (v : ChangeResu
   pub settled : Settled h s (nodes st W) (nodes st W′) kids (settle st v before new after (unusedOf (nodes st W)))
   -- the walk goes on from this child
   pub at : r .at ≡ length (settle st v before new after (unusedOf (nodes st W)) .before)
-  pub lowest : Lowest (nodes st W′) (r .low)
+  pub spared : Spared (nodes st W′) (r .spare)
 
 abbrev pub Done : Settings → List ℕ → List ℕ → ℕ → ℕ → ℕ → ChangeResult → Standing → Type 0
 Done st W W′ h s i v r = Ended st W W′ h s v r (kidsAt (nodes st W) h s) (beforeAt (nodes st W) h s i) (childAt (nodes st W) h s i) (afterAt (nodes st W) h s i)

@@ -7,7 +7,6 @@ use mathlib.Core.List.{List, [], _∷_, _++_, reverseAux}
 use lib.ListN.{length, take, drop}
 use Rattle.slots.specs.Nodes.{Held, nodes, nth, rowsAt, put2, withRows, lower}
 use Rattle.slots.specs.Nodes as S
-use Rattle.slots_find.specs.Search.{Lowest}
 use Rattle.model.specs.declared.Settings.{Settings}
 use Rattle.model.specs.Lists.{All}
 use Rattle.model.specs.Tree.{Node, Item, Tree, lowest}
@@ -15,6 +14,8 @@ use Rattle.model.specs.Share.{Two, Row, Place, full, stay}
 use Rattle.model.specs.Sound.{Stocked, Fits}
 use Rattle.model.specs.Contracts.{flat, joined}
 use Rattle.tree.specs.Bridge.{Holds, Apart, Blank, unusedOf}
+use Rattle.tree_spare.specs.declared.Spare.{Spare}
+use Rattle.tree_spare.specs.Spared.{Spared}
 use Rattle.batch_share.specs.Settle.{Settled, inner, kidsAt, childAt, beforeAt, afterAt}
 
 -- A FAMILY: node s and its children, of height h, in the pool
@@ -42,17 +43,17 @@ abbrev pub Focused : Settings → List ℕ → ℕ → ℕ → ℕ → Type 0
 Focused st W h s i = Focus st W h s i (beforeAt (nodes st W) h s i) (childAt (nodes st W) h s i) (afterAt (nodes st W) h s i)
 
 -- .. among stocked siblings, and may take k more slots
-pub record Poise (st : Settings) (W : List ℕ) (h s i low k : ℕ) (before : List (Tree h)) (c : Tree h) (after : List (Tree h)) : Type 0 where
+pub record Poise (st : Settings) (W : List ℕ) (h s i : ℕ) (spare : Spare) (k : ℕ) (before : List (Tree h)) (c : Tree h) (after : List (Tree h)) : Type 0 where
   pub family : Family st W h s (reverseAux before (c ∷ after))
   pub at : i ≡ length before
   pub stocked-before : All (Stocked st) before
   pub stocked-after : All (Stocked st) after
   pub few : length (rowsAt st W s) + k ≤ 2 * st .order
   pub room : k ≤ length (unusedOf (nodes st W))
-  pub lowest : Lowest (nodes st W) low
+  pub spared : Spared (nodes st W) spare
 
-abbrev pub Poised : Settings → List ℕ → ℕ → ℕ → ℕ → ℕ → ℕ → Type 0
-Poised st W h s i low k = Poise st W h s i low k (beforeAt (nodes st W) h s i) (childAt (nodes st W) h s i) (afterAt (nodes st W) h s i)
+abbrev pub Poised : Settings → List ℕ → ℕ → ℕ → ℕ → Spare → ℕ → Type 0
+Poised st W h s i spare k = Poise st W h s i spare k (beforeAt (nodes st W) h s i) (childAt (nodes st W) h s i) (afterAt (nodes st W) h s i)
 
 -- of two neighbours, children i and i + 1
 pub record Beside (st : Settings) (W : List ℕ) (h s i : ℕ) (before : List (Tree h)) (p c : Tree h) (after : List (Tree h)) : Type 0 where
@@ -71,10 +72,10 @@ pub record Came (st : Settings) (W W′ : List ℕ) (h s : ℕ) (kids : List (Tr
   pub header : take 4 W′ ≡ take 4 W
   pub settled : Settled h s (nodes st W) (nodes st W′) kids p
 
--- .. and `low` is the lowest unused slot, or the number of slots
-pub record Left (st : Settings) (W W′ : List ℕ) (h s low : ℕ) (kids : List (Tree h)) (p : Place (Tree h)) : Type 0 where
+-- .. and `spare` is what is unused
+pub record Left (st : Settings) (W W′ : List ℕ) (h s : ℕ) (spare : Spare) (kids : List (Tree h)) (p : Place (Tree h)) : Type 0 where
   pub came : Came st W W′ h s kids p
-  pub lowest : Lowest (nodes st W′) low
+  pub spared : Spared (nodes st W′) spare
 
 -- two neighbours became two others
 abbrev pub Parted : Settings → List ℕ → List ℕ → (h s i : ℕ) → Two (Item h) → Type 0
@@ -84,8 +85,8 @@ Parted st W W′ h s i two =
     (record { before = beforeAt ns h s i; rest = two .lower ∷ two .upper ∷ afterAt ns h s (i + 1); unused = unusedOf ns })
 
 -- child i and what is behind it became the row r
-abbrev pub Rowed : Settings → List ℕ → List ℕ → (h s i low : ℕ) → Row (Tree h) → Type 0
-Rowed st W W′ h s i low r = Left st W W′ h s low (kidsAt (nodes st W) h s) (stay (beforeAt (nodes st W) h s i) r)
+abbrev pub Rowed : Settings → List ℕ → List ℕ → (h s i : ℕ) → Spare → Row (Tree h) → Type 0
+Rowed st W W′ h s i spare r = Left st W W′ h s spare (kidsAt (nodes st W) h s) (stay (beforeAt (nodes st W) h s i) r)
 
 -- AMOUNTS
 

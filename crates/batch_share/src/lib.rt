@@ -2,11 +2,11 @@
 pub mod weigh; // the row of a child in its parent
 mod share; // an over-full child is shared out or split
 
-pub use share::lesser;
 pub use share::share_out;
+use tree_spare::Spare;
 
-// The child from which a walk goes on, and the lowest unused slot, or the number of slots where there is none.
+// The child from which a walk goes on, and the unused slots.
 pub struct Standing {
     pub at: usize,
-    pub low: usize,
+    pub spare: Spare,
 }

@@ -18,6 +18,8 @@ use crate::weigh::renew;
 use crate::weigh::renew_two;
 use crate::weigh::weigh;
 use model::Settings;
+use tree_spare::Spare;
+use tree_spare::after_taking;
 
 // Shares child `i` of node `s` out, first with the previous sibling, and then the walk steps back. (The Rust's `process_interior_split`.)
 pub fn share_out(
@@ -26,19 +28,19 @@ pub fn share_out(
     below: usize,
     s: usize,
     i: usize,
-    low: usize,
+    spare: Spare,
 ) -> Standing
-    requires { ⌜ Poised st (words (now pool)) below s i low 1 ⌝ }
+    requires { ⌜ Poised st (words (now pool)) below s i spare 1 ⌝ }
     requires { ⌜ Says st Split (childAt (nodes st (words (now pool))) below s i) ⌝ }
     ensures { λ r. ⌜ Done st (words (now (pool .entry))) (words (now (pool .exit))) below s i Split r ⌝ }
 {
     if room_before(pool, st, below, s, i) {
         give_back(pool, st, below, s, i - 1);
-        let low = share_next(pool, st, below, s, i, low);
-        return Standing { at: i - 1, low };
+        let spare = share_next(pool, st, below, s, i, spare);
+        return Standing { at: i - 1, spare };
     }
-    let low = share_next(pool, st, below, s, i, low);
-    Standing { at: i, low }
+    let spare = share_next(pool, st, below, s, i, spare);
+    Standing { at: i, spare }
 }
 
 // Whether child `i` has a previous sibling with room.
@@ -52,44 +54,65 @@ fn room_before(pool: &[u8], st: Settings, below: usize, s: usize, i: usize) -> b
     child_len(pool, st, below, s, i - 1) < st.order
 }
 
-// Shares child `i` with the next sibling and splits it, as long as it does not fit. The answer is the lowest unused slot.
-fn share_next(pool: &mut [u8], st: Settings, below: usize, s: usize, i: usize, low: usize) -> usize
-    requires { ⌜ Poised st (words (now pool)) below s i low 1 ⌝ }
+// Shares child `i` with the next sibling and splits it, as long as it does not fit. The answer is what is unused then.
+fn share_next(
+    pool: &mut [u8],
+    st: Settings,
+    below: usize,
+    s: usize,
+    i: usize,
+    spare: Spare,
+) -> Spare
+    requires { ⌜ Poised st (words (now pool)) below s i spare 1 ⌝ }
     ensures { λ r. let W = words (now (pool .entry)) in let ns = nodes st W in ⌜ Rowed st W (words (now (pool .exit))) below s i r (shareNext st (childAt ns below s i) (afterAt ns below s i) (unusedOf ns)) ⌝ }
 {
     let n = slots::count(pool, st, s);
     if i + 1 == n {
-        return split_over(pool, st, below, s, i, low);
+        return split_over(pool, st, below, s, i, spare);
     }
     if child_len(pool, st, below, s, i) <= st.order {
-        return low;
+        return spare;
     }
     give_on(pool, st, below, s, i);
-    split_over(pool, st, below, s, i, low)
+    split_over(pool, st, below, s, i, spare)
 }
 
 // Splits child `i` if it does not fit.
-fn split_over(pool: &mut [u8], st: Settings, below: usize, s: usize, i: usize, low: usize) -> usize
-    requires { ⌜ Poised st (words (now pool)) below s i low 1 ⌝ }
+fn split_over(
+    pool: &mut [u8],
+    st: Settings,
+    below: usize,
+    s: usize,
+    i: usize,
+    spare: Spare,
+) -> Spare
+    requires { ⌜ Poised st (words (now pool)) below s i spare 1 ⌝ }
     ensures { λ r. let W = words (now (pool .entry)) in let ns = nodes st W in ⌜ Rowed st W (words (now (pool .exit))) below s i r (followed (splitOver st (childAt ns below s i) (unusedOf ns)) (afterAt ns below s i)) ⌝ }
 {
     if child_len(pool, st, below, s, i) <= st.order {
-        return low;
+        return spare;
     }
-    split_child(pool, st, below, s, i, low)
+    split_child(pool, st, below, s, i, spare)
 }
 
 // The upper half of child `i` goes to the lowest unused slot, and the next one is looked for.
-fn split_child(pool: &mut [u8], st: Settings, below: usize, s: usize, i: usize, low: usize) -> usize
-    requires { ⌜ Poised st (words (now pool)) below s i low 1 ⌝ }
+fn split_child(
+    pool: &mut [u8],
+    st: Settings,
+    below: usize,
+    s: usize,
+    i: usize,
+    spare: Spare,
+) -> Spare
+    requires { ⌜ Poised st (words (now pool)) below s i spare 1 ⌝ }
     ensures { λ r. let W = words (now (pool .entry)) in let ns = nodes st W in let us = unusedOf ns in let two = halved (childAt ns below s i) (lowest us) in ⌜ Rowed st W (words (now (pool .exit))) below s i r (record { nodes = two .lower ∷ two .upper ∷ afterAt ns below s i; unused = others us }) ⌝ }
 {
     let c = child_at(pool, st, below, s, i);
-    slots_pair::split(pool, st, c, low);
-    let row = weigh(pool, st, below, low);
+    slots_pair::split(pool, st, c, spare.low);
+    let row = weigh(pool, st, below, spare.low);
     slots::insert_row(pool, st, s, i + 1, row);
     renew(pool, st, below, s, i, c);
-    slots_find::lowest_unused(pool, st, low + 1)
+    after_taking(pool, st, spare)
 }
 
 // Child `i + 1` hands its first rows to child `i`. (The Rust's `steal_children_from_start`.)
@@ -131,7 +154,7 @@ fn handed(pool: &[u8], st: Settings, c: usize, t: usize) -> usize
 }
 
 // The smaller of two numbers.
-pub fn lesser(a: usize, b: usize) -> usize
+fn lesser(a: usize, b: usize) -> usize
     ensures { λ r. ⌜ r ≡ min a b ⌝ }
 {
     if a < b { a } else { b }

@@ -1,5 +1,4 @@
--- `Opens`: opening. `Lends` and `Batched`: a batch. `Register`: the third demand, of the calls.
+-- `Opens`: opening. `Found`: from the survey of a pool to a batch. `Register`: the third demand, of the calls.
 pub mod Opens
-pub mod Lends
-pub mod Batched
+pub mod Found
 pub mod Register

@@ -1,16 +1,17 @@
 // THE PUBLIC CALLS of the index. Each takes any input, and answers: with what it has done, or with the number of a refusal, and then every
 // byte that was lent is as it was. What each answers stands in crate index_promise (specs/Promise). The calls that read stand in crate index_look.
+ghost use Rattle.model.specs.Refuse.{call};
 ghost use Rattle.index_promise.specs.Promise.{Opens, Batches};
 pub use frame_read::read as read_frame;
 pub use frame_write::write as write_frame;
+use index_known::Known;
+use index_known::store;
 pub use index_look::frame;
 pub use index_look::get;
 pub use index_look::scan;
 pub use index_look::totals;
 use index_promise::BatchAnswer;
 use index_promise::OpenAnswer;
-use index_refuse::batch_refusal;
-use index_refuse::operation_fits;
 use model::Operation;
 use model::Settings;
 
@@ -33,18 +34,19 @@ pub fn batch(
     sizes: &[u32],
     op: Operation,
 ) -> BatchAnswer
-    ensures { λ r. ⌜ Batches (record { operation = op; places = now (places .entry); sizes = now (sizes .entry); keys = now (keys .entry) }) (now (pool .entry)) r (now (pool .exit)) ⌝ }
+    ensures { λ r. ⌜ Batches (call op (now (places .entry)) (now (sizes .entry)) (now (keys .entry))) (now (pool .entry)) r (now (pool .exit)) ⌝ }
 {
     let found = survey::survey(pool);
     if !found.sound {
         return BatchAnswer::Refused(2);
     }
-    let st = slots_pool::settings(pool);
-    let n = batch_refusal(st, found.height, found.unused, keys, places, sizes, op);
-    if n != 0 {
-        return BatchAnswer::Refused(n);
-    }
-    operation_fits(op);
-    let counts = batch::batch(pool, st, found.height, found.low, keys, places, sizes, op);
-    BatchAnswer::Done(counts)
+    let settings = found.settings;
+    let spare = found.spare;
+    let known = Known {
+        settings,
+        height: found.height,
+        spare,
+    };
+    let stored = store(pool, known, keys, places, sizes, op);
+    stored.answer
 }

@@ -1,14 +1,9 @@
 -- What the layers below have done keeps the promises of the calls. Assumes nothing.
 use Prim.Native.Nat.{ℕ, _≤_}
-use native.Mathlib.Omega.{arith}
 use mathlib.Core.Path.{_≡_, refl, sym, ap, _∙_}
 use mathlib.Core.Bool.{Bool, true, false, cond, not}
 use mathlib.Core.List.{List, _++_}
 use lib.ListN.{length, drop}
-use Rattle.words.specs.Words.{words}
-use Rattle.words.proofs.Laws.{length-words}
-use Rattle.slots_pool.specs.Header.{settingsOf}
-use Rattle.model.specs.declared.Settings.{Settings}
 use Rattle.model.specs.declared.Totals.{Totals}
 use Rattle.model.specs.Tree.{totalsOf}
 use Rattle.model.specs.Answer.{Answer, refused, done, unless}
@@ -44,14 +39,11 @@ module _ {l : List ℕ} {f : Findings} (s : Surveyed l f) where
     pub sound : SoundPool l
     sound = s .sound .holds (not-false (f .sound) e)
 
-    pub has-header : 4 ≤ length (words l)
-    has-header = omega (arith, length-words l, sound .exact)
+    pub in-pool : InPool l (f .settings) (f .height)
+    in-pool = record { sound = sound; own = s .settings (not-false (f .sound) e); tall = s .height (not-false (f .sound) e) }
 
-    pub in-pool : (st : Settings) → st ≡ settingsOf (words l) → InPool l st (f .height)
-    in-pool st g = record { sound = sound; own = g; tall = s .height (not-false (f .sound) e) }
-
-    pub narrow : (st : Settings) → st ≡ settingsOf (words l) → st .order ≤ 32
-    narrow st g = rw g (sound .settings .narrow)
+    pub narrow : f .settings .order ≤ 32
+    narrow = rw (s .settings (not-false (f .sound) e)) (sound .settings .narrow)
 
 -- TOTALS
 

@@ -18,7 +18,7 @@ pub fn totals(pool: &[u8]) -> TotalsAnswer
     if !found.sound {
         return TotalsAnswer::Refused(2);
     }
-    let st = slots_pool::settings(pool);
+    let st = found.settings;
     let t = look::totals(pool, st, found.height);
     TotalsAnswer::Done(t)
 }
@@ -34,7 +34,7 @@ pub fn get(pool: &[u8], keys: &[u64], out: &mut [u8]) -> GetAnswer
     if descends(keys) {
         return GetAnswer::Refused(5);
     }
-    let st = slots_pool::settings(pool);
+    let st = found.settings;
     let g = look::get(pool, st, found.height, keys, out);
     GetAnswer::Done(g)
 }
@@ -54,7 +54,7 @@ pub fn scan(
     if !found.sound {
         return ScanAnswer::Refused(2);
     }
-    let st = slots_pool::settings(pool);
+    let st = found.settings;
     let s = look::scan(pool, st, found.height, start, end, direction, sift, out);
     ScanAnswer::Done(s)
 }
@@ -67,6 +67,6 @@ pub fn frame(pool: &[u8], i: usize, line: &mut [u8]) -> WriteAnswer
     if !found.sound {
         return WriteAnswer::Refused(2);
     }
-    let st = slots_pool::settings(pool);
+    let st = found.settings;
     frame::write_node(pool, st, found.height, i, line)
 }

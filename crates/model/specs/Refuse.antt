@@ -20,6 +20,9 @@ pub record Call : Type 0 where
   pub sizes : List ℕ
   pub keys : List ℕ
 
+abbrev pub call : Operation → List ℕ → List ℕ → List ℕ → Call
+call op ps zs ks = record { operation = op; places = ps; sizes = zs; keys = ks }
+
 abbrev pub tasksOf : Call → List Task
 tasksOf c = tasksFor (c .operation) (references (c .places) (c .sizes)) (c .keys)
 

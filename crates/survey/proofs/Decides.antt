@@ -28,10 +28,11 @@ use Rattle.tree.specs.Pool.{poolLen, heightAt, settingsIn, Kinds, EachChild, Se
 use Rattle.tree.proofs.Sums.{totals-discrete}
 use Rattle.tree.proofs.Opening.{exact-shape}
 use Rattle.survey.specs.Surveyed.{Headed}
-use Rattle.survey.specs.Spared.{Idle}
+use Rattle.tree_spare.proofs.Spares.{unused-few}
+use Rattle.survey.specs.Slots.{Idle}
 use Rattle.survey_node.specs.Checked.{Tail, Right, leastRoot, SoundTree}
 use Rattle.survey_node.proofs.Heads.{tail-told}
-use Rattle.survey.proofs.Verdicts.{unmet, unused-few, right-sound, sound-full, sound-right, sound-pool, pool-headed, pool-idle, pool-tree}
+use Rattle.survey.proofs.Verdicts.{unmet, right-sound, sound-full, sound-right, sound-pool, pool-headed, pool-idle, pool-tree}
 
 -- OF DECISIONS
 
@@ -162,7 +163,7 @@ module _ (st : Settings) (W : List ℕ) (sh : Shape st W) where
   used = st .nodes - length (unusedOf (nodes st W))
 
   counted : used + length (unusedOf (nodes st W)) ≡ st .nodes
-  counted = omega (arith, unused-few 0 (nodes st W), length-nodes st W)
+  counted = omega (arith, unused-few (nodes st W), length-nodes st W)
 
   dec-tree : Dec (SoundTree st W)
   dec-tree = by (decLe high 7) (dec-right high 0 (leastRoot high) used) (ℕ-discrete (length (slots (suc high) (treeAt (nodes st W) high 0))) used)

@@ -16,7 +16,7 @@ use Rattle.slots.proofs.Nodes.{kind-node, length-nodes}
 use Rattle.slots_pool.proofs.Canons.{past-raw}
 use Rattle.model.specs.declared.Settings.{Settings}
 use Rattle.tree.specs.Bridge.{unusedFrom}
-use Rattle.survey.specs.Spared.{Idle, Spared}
+use Rattle.survey.specs.Slots.{Idle, SlotsTold}
 
 -- where the pass stands when it has come down to slot s
 pub record Swept (st : Settings) (W : List ℕ) (free least s : ℕ) : Type 0 where
@@ -88,16 +88,19 @@ module _ (st : Settings) (W : List ℕ) where
         by kind t le lt (no ne) = g .before t (omega arith) lt
 
   -- at slot 0 every slot has been seen
-  pub swept-end : (free least s : ℕ) → s ≤ 0 → Swept st W free least s → Spared st W (record { ok = true; unused = free; low = least })
+  pub swept-end : (free least s : ℕ) → s ≤ 0 → Swept st W free least s
+      → SlotsTold st W (record { ok = true; spare = record { low = least; unused = free } })
   swept-end free least s z g =
       let e : s ≡ 0 = omega arith in
       record {
         ok = record { holds = λ t. each; told = λ t. refl };
-        free = λ t. g .unused ∙ ap (λ (j : ℕ). length (unusedFrom j (drop j (nodes st W)))) e;
-        low = λ t. record {
-          within = omega (arith, length-nodes st W, g .low);
-          before = λ t lt. g .before t (omega arith) lt;
-          here = λ lt. g .here (omega (arith, length-nodes st W));
+        spared = λ t. record {
+          lowest = record {
+            within = omega (arith, length-nodes st W, g .low);
+            before = λ t lt. g .before t (omega arith) lt;
+            here = λ lt. g .here (omega (arith, length-nodes st W));
+          };
+          count = g .unused ∙ ap (λ (j : ℕ). length (unusedFrom j (drop j (nodes st W)))) e;
         };
       }
     where

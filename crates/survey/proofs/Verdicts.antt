@@ -32,7 +32,8 @@ use Rattle.tree.proofs.Unused.{used-in, used-none, unused-past, unused-once}
 use Rattle.survey.specs.declared.Findings.{Findings}
 use Rattle.survey_node.specs.declared.Part.{Part}
 use Rattle.survey.specs.Surveyed.{Surveyed, Headed, unsound}
-use Rattle.survey.specs.Spared.{Idle}
+use Rattle.tree_spare.proofs.Spares.{spared-one}
+use Rattle.survey.specs.Slots.{Idle}
 use Rattle.survey_node.specs.Checked.{Last, last, There, Tail, Right, Checked, leastRoot, SoundTree}
 use Rattle.survey_node.proofs.Rows.{kinds-there}
 use Rattle.survey.proofs.Places.{hit-most, each-once}
@@ -171,21 +172,15 @@ verdict-there st W h e s = rw e (kinds-there st W (heightAt (nodes st W) 8 0) 0 
 
 -- THE SURVEY
 
-pub unused-few : (a : ℕ) (ns : List S.Node) → length (unusedFrom a ns) ≤ length ns
-unused-few a [] = omega arith
-unused-few a (n ∷ ns) =
-    by-test (λ (l : List ℕ). length l ≤ suc (length ns)) (eqb (n .kind) 0) (λ e. omega (arith, unused-few (suc a) ns))
-    (λ e. omega (arith, unused-few (suc a) ns))
-
 pub survey-not : (l : List ℕ) (r : Findings) → r ≡ unsound → (SoundPool l → ⊥) → Surveyed l r
 survey-not l r e f =
     let off : r .sound ≡ false = ap (λ (x : Findings). x .sound) e in
     let never : (A : Type 0) → r .sound ≡ true → A = λ A t. absurd (true≢false (sym t ∙ off)) in
     record {
       sound = record { holds = λ t. never _ t; told = λ s. absurd (f s) };
+      settings = λ t. never _ t;
       height = λ t. never _ t;
-      unused = λ t. never _ t;
-      low = λ t. never _ t;
+      spared = λ t. never _ t;
       nothing = λ t. e;
     }
 
@@ -220,14 +215,6 @@ pub pool-tree : (l : List ℕ) → SoundPool l → SoundTree (settingsIn l) (wor
 pool-tree l p = record { sound = p .nodes; tails = all-every (slotsOf (indexOf l)) (λ s. p .zeros s .tail) }
 
 -- two answers that meet the promise are one
-lowest-same : (ns : List S.Node) (a b : ℕ) → Lowest ns a → Lowest ns b → a ≡ b
-lowest-same ns a b x y = by (decLt a b) (decLt b a)
-  where
-    by : Dec (a < b) → Dec (b < a) → a ≡ b
-    by (yes lt) q = absurd (y .before a lt (x .here (omega (arith, y .within))))
-    by (no ge) (yes lt) = absurd (x .before b lt (y .here (omega (arith, x .within))))
-    by (no ge) (no le) = omega arith
-
 pub sound-told : (l : List ℕ) (q r : Findings) → Surveyed l q → Surveyed l r → q ≡ r
 sound-told l q r a b = by (q .sound) refl
   where
@@ -238,7 +225,7 @@ sound-told l q r a b = by (q .sound) refl
     by true e =
         let f : r .sound ≡ true = sym same ∙ e in
         let height : q .height ≡ r .height = a .height e ∙ sym (b .height f) in
-        let unused : q .unused ≡ r .unused = a .unused e ∙ sym (b .unused f) in
-        let low : q .low ≡ r .low = lowest-same (nodesIn l) (q .low) (r .low) (a .low e) (b .low f) in
-        λ j. record { sound = same j; height = height j; unused = unused j; low = low j }
+        let settings : q .settings ≡ r .settings = a .settings e ∙ sym (b .settings f) in
+        let spare : q .spare ≡ r .spare = spared-one (nodesIn l) (q .spare) (r .spare) (a .spared e) (b .spared f) in
+        λ j. record { sound = same j; settings = settings j; height = height j; spare = spare j }
     by false e = a .nothing e ∙ sym (b .nothing (sym same ∙ e))

@@ -1,3 +1,3 @@
--- `Surveyed` says what the survey of a pool promises, `Spared` what the pass over its slots tells.
+-- `Surveyed` says what the survey of a pool promises, `Slots` what the pass over its slots tells.
 pub mod Surveyed
-pub mod Spared
+pub mod Slots

@@ -18,17 +18,18 @@ ghost use Rattle.survey.specs.Surveyed.{Surveyed, Headed, unsound};
 mod spares; // the pass over the slots
 mod walk; // the walk over the tree
 
+use model::Settings;
 use spares::survey_slots;
+use tree_spare::Spare;
 use walk::left_edge;
 use walk::tree_right;
 
-// What a survey finds: whether the pool is sound; if it is, the height of its tree, the number of unused slots, and the lowest of
-// them, or the number of slots where there is none.
+// What a survey finds: whether the pool is sound; if it is, its settings, the height of its tree, and its unused slots.
 pub struct Findings {
     pub sound: bool,
+    pub settings: Settings,
     pub height: usize,
-    pub unused: usize,
-    pub low: usize,
+    pub spare: Spare,
 }
 
 // Surveys any bytes.
@@ -43,15 +44,16 @@ pub fn survey(pool: &[u8]) -> Findings
     if !spares.ok {
         return nothing();
     }
+    let spare = spares.spare;
     let height = left_edge(pool, st);
-    if !tree_right(pool, st, height, st.nodes - spares.unused) {
+    if !tree_right(pool, st, height, st.nodes - spare.unused) {
         return nothing();
     }
     Findings {
         sound: true,
+        settings: st,
         height,
-        unused: spares.unused,
-        low: spares.low,
+        spare,
     }
 }
 
@@ -77,8 +79,12 @@ fn nothing() -> Findings
 {
     Findings {
         sound: false,
+        settings: Settings {
+            nodes: 0,
+            order: 0,
+            minimum: 0,
+        },
         height: 0,
-        unused: 0,
-        low: 0,
+        spare: Spare { low: 0, unused: 0 },
     }
 }

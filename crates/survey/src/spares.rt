@@ -2,20 +2,20 @@
 // the walk, which then reads each such slot once, from its first word to its last.
 ghost use Rattle.words.specs.Words.{words};
 ghost use Rattle.slots_raw.specs.Slots.{Shape};
-ghost use Rattle.survey.specs.Spared.{Spared};
+ghost use Rattle.survey.specs.Slots.{SlotsTold};
 use model::Settings;
+use tree_spare::Spare;
 
-// Whether the unused slots are all zero; if so, how many they are, and the lowest of them.
+// Whether the unused slots are all zero; if so, which they are.
 pub struct Spares {
     pub ok: bool,
-    pub unused: usize,
-    pub low: usize,
+    pub spare: Spare,
 }
 
 // Looks at every slot, the last one first, so that the unused slot which it met last is the lowest.
 pub fn survey_slots(pool: &[u8], st: Settings) -> Spares
     requires { ⌜ Shape st (words (now pool)) ⌝ }
-    ensures { λ r. ⌜ Spared st (words (now (pool .entry))) r ⌝ }
+    ensures { λ r. ⌜ SlotsTold st (words (now (pool .entry))) r ⌝ }
 {
     let nodes = st.nodes;
     let mut unused = 0;
@@ -27,8 +27,7 @@ pub fn survey_slots(pool: &[u8], st: Settings) -> Spares
             if !slots_pool::slot_zero(pool, st, s) {
                 return Spares {
                     ok: false,
-                    unused: 0,
-                    low: 0,
+                    spare: Spare { low: 0, unused: 0 },
                 };
             }
             unused += 1;
@@ -37,7 +36,6 @@ pub fn survey_slots(pool: &[u8], st: Settings) -> Spares
     }
     Spares {
         ok: true,
-        unused,
-        low,
+        spare: Spare { low, unused },
     }
 }

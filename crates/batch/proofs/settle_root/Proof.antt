@@ -7,20 +7,20 @@ use Rattle.batch.proofs.settle_root.Tie as tie
 
 returns : tie.Need-returns
 returns c =
-    let told = c .before .before .before .before in
-    split-settled (told .before .before .before .pre) (told .enum-told .given .1) (c .before .before .split-root .ensures)
+    let told = c .before .before .before .before .before .before in
+    split-settled (told .before .before .before .pre) (told .enum-told .given .1) (c .before .before .before .split-root .ensures)
 
 returns-2 : tie.Need-returns-2
 returns-2 c =
-    let told = c .before .before .before .before in
-    gone-settled (told .before .before .before .pre) (told .enum-told2 .given .1) (c .before .before .set-kind .ensures)
+    let told = c .before .before .before .before .before in
+    gone-settled (told .before .before .before .pre) (told .enum-told2 .given .1) (c .before .before .before .set-kind .ensures)
 
 pub settle-root-spec : {M : Type 1} → statement M
 settle-root-spec =
     tie.close
     (tie.spec
     (λ c. search needs)
-    (λ c κs. to-halve (c .before .before .before .before .pre) (c .before .enum-told .given .1))
+    (λ c κs. to-halve (c .before .before .before .before .before .pre) (c .before .before .enum-told .given .1))
     (λ c. search needs)
     (λ c. search needs)
     returns

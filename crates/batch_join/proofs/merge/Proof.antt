@@ -1,6 +1,7 @@
 -- `merge` meets its contract: each step does to the pool what the model's join does to the two (`Merges`). Assumes nothing.
 use native.Mathlib.Omega.{arith}
 use borrow.Author.Needs.{needs}
+use Rattle.tree_spare.proofs.Spares.{spared-few}
 use Rattle.batch_share.proofs.Turns.{beside-few, sits-lower, sits-upper}
 use Rattle.batch_join.proofs.Merges.{can-join, upper-out, both-renews, merged-left}
 use Rattle.batch_join.proofs.merge.Statement.{statement}
@@ -42,6 +43,16 @@ renew-requires c κs =
     both-renews (lower .before .before .before .pre .0) _ _ (lower .child-at .ensures .is) (upper .child-at2 .ensures .is) _ (joined .join .ensures) _
     (gone .remove-row .ensures)
 
+after-freeing-requires : tie.Need-after-freeing-requires
+after-freeing-requires c κs =
+    let renewed = c .before .before in
+    let gone = renewed .before .before .before .before in
+    let joined = gone .before .before .before .before in
+    let upper = joined .before .before in
+    let lower = upper .before .before in
+    let start = lower .before .before .before in
+    spared-few _ _ (start .pre .1 .1) (start .pre .0 .family .held)
+
 returns : tie.Need-returns
 returns c =
     let renewed = c .before .before .before in
@@ -51,7 +62,7 @@ returns c =
     let lower = upper .before .before in
     let start = lower .before .before .before in
     merged-left (start .pre .0) _ _ (lower .child-at .ensures .is) (upper .child-at2 .ensures .is) _ (joined .join .ensures) _ (gone .remove-row .ensures) _
-    (start .pre .1 .1) _ (c .lesser .ensures) _ (renewed .renew .ensures)
+    (start .pre .1 .1) _ (c .after-freeing .ensures) _ (renewed .renew .ensures)
 
 pub merge-spec : {M : Type 1} → statement M
 merge-spec =
@@ -64,6 +75,6 @@ merge-spec =
     add-remove-row
     remove-row-requires
     renew-requires
-    (λ c κs. search needs)
+    after-freeing-requires
     (λ c. search needs)
     returns)

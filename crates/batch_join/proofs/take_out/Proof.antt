@@ -1,5 +1,6 @@
 -- `take_out` meets its contract: the child's slot is released and its row taken out, and both are what the model leaves (`Outs`). Assumes nothing.
 use borrow.Author.Needs.{needs}
+use Rattle.tree_spare.proofs.Spares.{spared-few}
 use Rattle.batch_share.proofs.Focuses.{poise-focus, focus-sits}
 use Rattle.batch_join.proofs.Outs.{child-out, taken-out}
 use Rattle.batch_join.proofs.take_out.Statement.{statement}
@@ -15,6 +16,14 @@ remove-row-requires c κs =
     let start = child .before .before .before in
     child-out (poise-focus (start .pre .0)) (start .pre .1) _ (child .child-at .ensures .is) _ (freed .release .ensures)
 
+after-freeing-requires : tie.Need-after-freeing-requires
+after-freeing-requires c κs =
+    let gone = c .before .before .before in
+    let freed = gone .before .before .before .before in
+    let child = freed .before .before in
+    let start = child .before .before .before in
+    spared-few _ _ (start .pre .0 .spared) (start .pre .0 .family .held)
+
 returns : tie.Need-returns
 returns c =
     let gone = c .before .before .before .before in
@@ -22,7 +31,7 @@ returns c =
     let child = freed .before .before in
     let start = child .before .before .before in
     taken-out (poise-focus (start .pre .0)) (start .pre .1) _ (child .child-at .ensures .is) _ (freed .release .ensures) _ (gone .remove-row .ensures) _
-    (start .pre .0 .lowest) _ (c .before .one-back .ensures) (c .lesser .ensures)
+    (start .pre .0 .spared) _ (c .before .one-back .ensures) (c .after-freeing .ensures)
 
 pub take-out-spec : {M : Type 1} → statement M
 take-out-spec =
@@ -32,6 +41,6 @@ take-out-spec =
     (λ c κs. search needs)
     remove-row-requires
     (λ c κs. search needs)
-    (λ c κs. search needs)
+    after-freeing-requires
     (λ c. search needs)
     returns)

@@ -5,16 +5,17 @@ use Prim.Native.Nat.{_-_}
 use native.Mathlib.Omega.{arith}
 use lib.ListN.{length}
 use Rattle.words.specs.Words.{words}
+use Rattle.model.specs.Refuse.{call}
 use Rattle.batch_leaf.proofs.Turns.{Turn, turn-start, turn-within, turn-leaf, turn-lent, turn-on, turn-done}
 use Rattle.batch_leaf.proofs.take_keys.Statement.{statement}
 use Rattle.batch_leaf.proofs.take_keys.Tie as tie
 
 abbrev Inv-loop : tie.InvT-loop
-Inv-loop pool₀ st s keys places sizes op at ceiling next₀ changed₀ c₀ pool next changed c =
-    Turn st (words pool₀) (words pool) s op places sizes keys at ceiling c₀ next changed c × (length pool ≡ length pool₀)
+Inv-loop pool₀ st leaf keys places sizes op now₀ changed₀ pool now changed =
+    Turn st (words pool₀) (words pool) leaf (call op places sizes keys) now₀ changed now × (length pool ≡ length pool₀)
 
 abbrev μ-loop : tie.MeasureT-loop
-μ-loop pool₀ st s keys places sizes op at ceiling next₀ changed₀ c₀ pool next changed c = length keys - next
+μ-loop pool₀ st leaf keys places sizes op now₀ changed₀ pool now changed = length keys - now .next
 
 loop-holds : tie.Need-loop-holds Inv-loop μ-loop
 loop-holds c = let start = c .before .before .before .before in (turn-start (start .pre .0) (start .pre .1), refl)
@@ -48,8 +49,8 @@ counted-requires c κs =
     let b = taken .before .before .before .loop .inv .0 .batch in
     record { few = omega (arith, b .few .few, b .within, b .short) }
 
-add-next : tie.Need-add-next Inv-loop μ-loop
-add-next c =
+add-now : tie.Need-add-now Inv-loop μ-loop
+add-now c =
     let taken = c .before .before .before .before .before .before .before .before in
     let b = taken .before .before .before .loop .inv .0 .batch in
     omega (arith, b .within, b .short)
@@ -93,7 +94,7 @@ take-keys-spec =
     change-key-requires
     (λ c κs. tt)
     counted-requires
-    add-next
+    add-now
     loop-less
     loop-again
     same-length

@@ -5,7 +5,8 @@ use mathlib.Core.Path.{_≡_, refl, sym, _∙_, subst}
 use native.Mathlib.Omega.{arith}
 use lib.ListN.{length}
 use Rattle.words.specs.Words.{words}
-use Rattle.batch_node.specs.Calls.{Call, Came}
+use Rattle.model.specs.Refuse.{call}
+use Rattle.batch_node.specs.Calls.{ToChange, Came}
 use Rattle.batch_node.proofs.Rounds.{Roaming, round-start, round-at, round, next-in, child-in, child-call, pending, round-again, round-less, round-end}
 use borrow.Author.Needs.{needs}
 use borrow.Fn.Kinds.{In}
@@ -29,12 +30,12 @@ use Rattle.tree_rows.proofs.child_of.Reads as child-of-reads
 use Rattle.batch_node.proofs.+interior_change+node_change.{statement}
 use Rattle.batch_node.proofs.+interior_change+node_change.Tie.{close}
 
--- the height falls round the cycle: a node of height h + 1 is an interior whose children have height h
+-- the height falls round the cycle, from an interior to its children
 abbrev μ-interior-change : Measures 4 interior-change-kinds.ps ℕ
-μ-interior-change κs a = 2 * a .1 .1 .0 + 2
+μ-interior-change κs a = 2 * a .1 .1 .0 .height + 1
 
 abbrev μ-node-change : Measures 4 node-change-kinds.ps ℕ
-μ-node-change κs a = 2 * a .1 .1 .0 + 1
+μ-node-change κs a = 2 * a .1 .1 .0 .height + 2
 
 abbrev interior-change-at : ℕ → In 4 interior-change-kinds.ps
 interior-change-at t =
@@ -93,15 +94,18 @@ nc t = (
 )
 
 abbrev interior-change-Inv-loop : interior-change-lts.InvT-loop
-interior-change-Inv-loop pool₀ st below s keys places sizes op at ceiling low i₀ next₀ changed₀ c₀ lowest₀ pool i next changed c lowest =
-    Roaming st (words pool₀) (words pool) below s op places sizes keys at ceiling c₀ i next changed c lowest × (length pool ≡ length pool₀)
+interior-change-Inv-loop pool₀ st node keys places sizes op below i₀ changed₀ now₀ pool i changed now =
+    Roaming st (words pool₀) (words pool) (node .height - 1) node (call op places sizes keys) now₀ i changed now × (length pool ≡ length pool₀)
 
 abbrev interior-change-μ-loop : interior-change-lts.MeasureT-loop
-interior-change-μ-loop pool₀ st below s keys places sizes op at ceiling low i₀ next₀ changed₀ c₀ lowest₀ pool i next changed c lowest =
-    length keys - next
+interior-change-μ-loop pool₀ st node keys places sizes op below i₀ changed₀ now₀ pool i changed now =
+    length keys - now .next
+
+interior-change-sub-below : (t : ℕ) → interior-change-lts.Need-sub-below (ic t) (interior-change-at t) interior-change.Post interior-change-Inv-loop interior-change-μ-loop
+interior-change-sub-below t c = omega (arith, c .before .before .before .before .before .pre .1 .0)
 
 interior-change-loop-holds : (t : ℕ) → interior-change-lts.Need-loop-holds (ic t) (interior-change-at t) interior-change.Post interior-change-Inv-loop interior-change-μ-loop
-interior-change-loop-holds t c = (round-start (c .before .before .before .before .pre .1), refl)
+interior-change-loop-holds t c = (round-start (c .before .before .before .before .before .pre .1 .1), refl)
 
 interior-change-roams-on-requires : (t : ℕ) → interior-change-lts.Need-roams-on-requires (ic t) (interior-change-at t) interior-change.Post interior-change-Inv-loop interior-change-μ-loop
 interior-change-roams-on-requires t c κs = round-at (c .before .loop .inv .0)
@@ -110,8 +114,8 @@ interior-change-mul-key : (t : ℕ) → interior-change-lts.Need-mul-key (ic t) 
 interior-change-mul-key t c =
     let asked = c .before in
     let at = asked .before .before in
-    let keys = at .before .before .before .before .before .args .keys .now in
-    let w : at .loop .next < length keys = next-in (at .loop .inv .0) (sym (asked .roams-on .ensures) ∙ c .if1 .taken) in
+    let keys = at .before .before .before .before .before .before .args .keys .now in
+    let w : at .loop .now .next < length keys = next-in (at .loop .inv .0) (sym (asked .roams-on .ensures) ∙ c .if1 .taken) in
     omega arith
 
 interior-change-shared-slice-read-key : (t : ℕ) → interior-change-lts.Need-shared-slice-read-key (ic t) (interior-change-at t) interior-change.Post interior-change-Inv-loop interior-change-μ-loop
@@ -149,15 +153,15 @@ interior-change-node-change-requires t c κs =
     let taken = sought .before .before .before in
     let asked = taken .before in
     let at = asked .before .before in
-    let start = at .before .before .before .before .before in
+    let start = at .before .before .before .before .before .before in
     let r = round (at .loop .inv .0) (sym (asked .roams-on .ensures) ∙ taken .if1 .taken) in (
       omega (arith, start .pre .0),
-      child-call r (sought .seek-child .ensures) (row .row-at .ensures) (child .child-of .ensures) (reach .ceiling-for .ensures),
+      child-call r (sought .seek-child .ensures) (row .row-at .ensures) (child .child-of .ensures) (reach .ceiling-for .ensures) _,
     )
 
 interior-change-settle-child-requires : (t : ℕ) → interior-change-lts.Need-settle-child-requires (ic t) (interior-change-at t) interior-change.Post interior-change-Inv-loop interior-change-μ-loop
 interior-change-settle-child-requires t c κs =
-    let changed = c .before .before .before in
+    let changed = c .before .before .before .before .before .before in
     let reach = changed .before .before in
     let child = reach .before in
     let row = child .before in
@@ -174,7 +178,7 @@ interior-change-changed-by-requires t c κs = tt
 interior-change-loop-less : (t : ℕ) → interior-change-lts.Need-loop-less (ic t) (interior-change-at t) interior-change.Post interior-change-Inv-loop interior-change-μ-loop
 interior-change-loop-less t c =
     let settled = c .before .before .before .before in
-    let changed = settled .before .before .before .before in
+    let changed = settled .before .before .before .before .before .before .before in
     let reach = changed .before .before in
     let child = reach .before in
     let row = child .before in
@@ -193,7 +197,7 @@ interior-change-loop-less t c =
 interior-change-loop-again : (t : ℕ) → interior-change-lts.Need-loop-again (ic t) (interior-change-at t) interior-change.Post interior-change-Inv-loop interior-change-μ-loop
 interior-change-loop-again t c =
     let settled = c .before .before .before .before in
-    let changed = settled .before .before .before .before in
+    let changed = settled .before .before .before .before .before .before .before in
     let reach = changed .before .before in
     let child = reach .before in
     let row = child .before in
@@ -203,7 +207,7 @@ interior-change-loop-again t c =
     let at = asked .before .before in
     let r = round (at .loop .inv .0) (sym (asked .roams-on .ensures) ∙ taken .if1 .taken) in (
       round-again r (sought .seek-child .ensures) (row .row-at .ensures) (child .child-of .ensures) (reach .ceiling-for .ensures) (changed .node-change .ensures)
-          (settled .settle-child .ensures) (c .before .changed-by .ensures),
+          (settled .settle-child .ensures) (c .changed-by .ensures),
       settled .settle-child .kept .0 ∙ changed .node-change .kept .0 ∙ at .loop .inv .1,
     )
 
@@ -225,9 +229,9 @@ interior-change-returns t c =
 
 node-change-leaf-change-requires : (t : ℕ) → node-change-lts.Need-leaf-change-requires (nc t) (node-change-at t) node-change.Post
 node-change-leaf-change-requires t c κs =
-    let start = c .before .before .before .before .before .before in
+    let start = c .before .before .before .before .before .before .before in
     let a = start .args in
-    subst (λ (n : ℕ). Call (a .st) (words (a .pool .now)) n (a .s) (a .op) (a .places .now) (a .sizes .now) (a .keys .now) (a .at) (a .ceiling) (a .counts) (a .low))
+    subst (λ (n : ℕ). ToChange (a .st) (words (a .pool .now)) n (a .node) (call (a .op) (a .places .now) (a .sizes .now) (a .keys .now)) (a .run))
     (c .before .if1 .taken) (start .pre .1)
 
 node-change-same-length : (t : ℕ) → node-change-lts.Need-same-length (nc t) (node-change-at t) node-change.Post
@@ -237,24 +241,24 @@ node-change-returns : (t : ℕ) → node-change-lts.Need-returns (nc t) (node-ch
 node-change-returns t c =
     let done = c .before .before in
     let leaf = done .before .before in
-    let a = leaf .before .before .before .before .before .args in
+    let a = leaf .before .before .before .before .before .before .args in
     let W = words (a .pool .now) in
     let W′ = words (done .leaf-change .last .0) in
     let r = done .leaf-change .result in
-    subst (λ (n : ℕ). Came (a .st) W W′ n (a .s) (a .op) (a .places .now) (a .sizes .now) (a .keys .now) (a .at) (a .ceiling) (a .counts) r)
+    subst (λ (n : ℕ). Came (a .st) W W′ n (a .node) (call (a .op) (a .places .now) (a .sizes .now) (a .keys .now)) (a .run) r)
     (sym (leaf .if1 .taken)) (done .leaf-change .ensures)
-
-node-change-sub-interior-change : (t : ℕ) → node-change-lts.Need-sub-interior-change (nc t) (node-change-at t) node-change.Post
-node-change-sub-interior-change t c = omega (arith, c .before .if1 .left)
 
 node-change-interior-change-requires : (t : ℕ) → node-change-lts.Need-interior-change-requires (nc t) (node-change-at t) node-change.Post
 node-change-interior-change-requires t c κs =
-    let start = c .before .before .before .before .before .before in
+    let start = c .before .before .before .before .before .before .before in
     let a = start .args in
-    let e : a .height ≡ suc (a .height - 1) = omega (arith, c .before .if1 .left) in (
+    let e : a .node .height ≡ suc (a .node .height - 1) = omega (arith, c .before .if1 .left) in (
       omega (arith, start .pre .0),
-      subst (λ (n : ℕ). Call (a .st) (words (a .pool .now)) n (a .s) (a .op) (a .places .now) (a .sizes .now) (a .keys .now) (a .at) (a .ceiling) (a .counts) (a .low))
-          e (start .pre .1),
+      (
+        omega (arith, c .before .if1 .left),
+        subst (λ (n : ℕ). ToChange (a .st) (words (a .pool .now)) n (a .node) (call (a .op) (a .places .now) (a .sizes .now) (a .keys .now)) (a .run))
+            e (start .pre .1),
+      ),
     )
 
 node-change-same-length-2 : (t : ℕ) → node-change-lts.Need-same-length-2 (nc t) (node-change-at t) node-change.Post
@@ -264,18 +268,19 @@ node-change-returns-2 : (t : ℕ) → node-change-lts.Need-returns-2 (nc t) (nod
 node-change-returns-2 t c =
     let done = c .before .before in
     let interior = done .before .before in
-    let a = interior .before .before .before .before .before .args in
+    let a = interior .before .before .before .before .before .before .args in
     let W = words (a .pool .now) in
     let W′ = words (done .interior-change .last .0) in
     let r = done .interior-change .result in
-    let e : a .height ≡ suc (a .height - 1) = omega (arith, interior .if1 .left) in
-    subst (λ (n : ℕ). Came (a .st) W W′ n (a .s) (a .op) (a .places .now) (a .sizes .now) (a .keys .now) (a .at) (a .ceiling) (a .counts) r)
+    let e : a .node .height ≡ suc (a .node .height - 1) = omega (arith, interior .if1 .left) in
+    subst (λ (n : ℕ). Came (a .st) W W′ n (a .node) (call (a .op) (a .places .now) (a .sizes .now) (a .keys .now)) (a .run) r)
     (sym e) (done .interior-change .ensures)
 
 pub +interior-change+node-change-spec : {M : Type 1} → statement M
 +interior-change+node-change-spec =
     close μ-interior-change μ-node-change
     (λ t. interior-change-lts.spec (ic t) (interior-change-at t) interior-change.Post interior-change-Inv-loop interior-change-μ-loop
+    (interior-change-sub-below t)
     (interior-change-loop-holds t)
     (interior-change-roams-on-requires t)
     (interior-change-mul-key t)
@@ -297,7 +302,6 @@ pub +interior-change+node-change-spec : {M : Type 1} → statement M
     (node-change-leaf-change-requires t)
     (node-change-same-length t)
     (node-change-returns t)
-    (node-change-sub-interior-change t)
     (node-change-interior-change-requires t)
     (node-change-same-length-2 t)
     (node-change-returns-2 t)

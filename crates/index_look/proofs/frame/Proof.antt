@@ -1,7 +1,7 @@
 -- `frame` meets its contract: the survey tells whether the pool is sound; where it is not the call refuses (`frame-unsound`), and where it is the line
 -- is what the model's node writes (`frame-told`). Assumes nothing.
 use borrow.Author.Needs.{needs}
-use Rattle.index_look.proofs.Keeps.{unsound, sound, has-header, in-pool, frame-unsound, frame-told}
+use Rattle.index_look.proofs.Keeps.{unsound, sound, in-pool, frame-unsound, frame-told}
 use Rattle.index_look.proofs.frame.Statement.{statement}
 use Rattle.index_look.proofs.frame.Tie as tie
 
@@ -10,13 +10,10 @@ returns c =
     let a = c .before .before .before .before .before .args in
     frame-unsound _ (a .i) _ (unsound (c .before .before .survey .ensures) (c .if1 .taken))
 
-settings-requires : tie.Need-settings-requires
-settings-requires c κs = has-header (c .before .before .survey .ensures) (c .if1 .left)
-
 write-node-requires : tie.Need-write-node-requires
 write-node-requires c κs =
     let checked = c .before .before in
-    let p = in-pool (checked .before .before .survey .ensures) (checked .if1 .left) _ (c .before .settings .ensures) in
+    let p = in-pool (checked .before .before .survey .ensures) (checked .if1 .left) in
     (p .sound, (p .own, p .tall))
 
 returns-2 : tie.Need-returns-2
@@ -28,4 +25,4 @@ returns-2 c =
 pub frame-spec : {M : Type 1} → statement M
 frame-spec =
     tie.close
-    (tie.spec (λ c κs. search needs) returns settings-requires write-node-requires (λ c. search needs) returns-2)
+    (tie.spec (λ c κs. search needs) returns write-node-requires (λ c. search needs) returns-2)

@@ -2,7 +2,7 @@
 -- descend (`get-descends`); else what was written is the model's listing (`get-told`). Assumes nothing.
 use mathlib.Core.Path.{sym, _∙_}
 use borrow.Author.Needs.{needs}
-use Rattle.index_look.proofs.Keeps.{unsound, sound, has-header, in-pool, get-unsound, get-descends, get-told}
+use Rattle.index_look.proofs.Keeps.{unsound, sound, in-pool, get-unsound, get-descends, get-told}
 use Rattle.index_look.proofs.get.Statement.{statement}
 use Rattle.index_look.proofs.get.Tie as tie
 
@@ -17,13 +17,10 @@ returns-2 c =
     let a = checked .before .before .before .before .before .before .args in
     get-descends _ (a .keys .now) _ (sound (checked .before .before .survey .ensures) (checked .if1 .left)) (sym (c .before .descends .ensures) ∙ c .if2 .taken)
 
-settings-requires : tie.Need-settings-requires
-settings-requires c κs = let checked = c .before .before in has-header (checked .before .before .survey .ensures) (checked .if1 .left)
-
 get-requires : tie.Need-get-requires
 get-requires c κs =
     let checked = c .before .before .before .before in
-    in-pool (checked .before .before .survey .ensures) (checked .if1 .left) _ (c .before .settings .ensures)
+    in-pool (checked .before .before .survey .ensures) (checked .if1 .left)
 
 returns-3 : tie.Need-returns-3
 returns-3 c =
@@ -41,7 +38,6 @@ get-spec =
     returns
     (λ c κs. search needs)
     returns-2
-    settings-requires
     get-requires
     (λ c. search needs)
     returns-3)

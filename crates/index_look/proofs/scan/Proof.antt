@@ -2,7 +2,7 @@
 -- written, and the nodes that were opened, are the model's (`scan-told`). Assumes nothing.
 use borrow.Author.Needs.{needs}
 use Rattle.look.specs.Calls.{requestFor}
-use Rattle.index_look.proofs.Keeps.{unsound, sound, has-header, in-pool, scan-unsound, scan-told}
+use Rattle.index_look.proofs.Keeps.{unsound, sound, in-pool, scan-unsound, scan-told}
 use Rattle.index_look.proofs.scan.Statement.{statement}
 use Rattle.index_look.proofs.scan.Tie as tie
 
@@ -11,13 +11,10 @@ returns c =
     let a = c .before .before .before .before .before .args in
     scan-unsound _ (requestFor (a .start) (a .end) (a .direction) (a .sift)) _ (unsound (c .before .before .survey .ensures) (c .if1 .taken))
 
-settings-requires : tie.Need-settings-requires
-settings-requires c κs = has-header (c .before .before .survey .ensures) (c .if1 .left)
-
 scan-requires : tie.Need-scan-requires
 scan-requires c κs =
     let checked = c .before .before in
-    in-pool (checked .before .before .survey .ensures) (checked .if1 .left) _ (c .before .settings .ensures)
+    in-pool (checked .before .before .survey .ensures) (checked .if1 .left)
 
 returns-2 : tie.Need-returns-2
 returns-2 c =
@@ -30,4 +27,4 @@ returns-2 c =
 pub scan-spec : {M : Type 1} → statement M
 scan-spec =
     tie.close
-    (tie.spec (λ c κs. search needs) returns settings-requires scan-requires (λ c. search needs) returns-2)
+    (tie.spec (λ c κs. search needs) returns scan-requires (λ c. search needs) returns-2)

@@ -16,9 +16,10 @@ use Rattle.slots_raw.specs.Slots.{Shape}
 use Rattle.tree.specs.Pool.{settingsIn, nodesIn, heightAt}
 use Rattle.tree.proofs.Opening.{exact-shape}
 use Rattle.survey.specs.Surveyed.{Headed}
-use Rattle.survey.specs.Spared.{Spared}
+use Rattle.tree_spare.proofs.Spares.{unused-few}
+use Rattle.survey.specs.Slots.{SlotsTold}
 use Rattle.survey_node.specs.Checked.{SoundTree}
-use Rattle.survey.proofs.Verdicts.{unused-few, survey-not, sound-pool, pool-headed, pool-idle, pool-tree}
+use Rattle.survey.proofs.Verdicts.{survey-not, sound-pool, pool-headed, pool-idle, pool-tree}
 use Rattle.survey.proofs.survey.Statement.{statement}
 use Rattle.survey.proofs.survey.Tie as tie
 
@@ -31,7 +32,7 @@ shaped c = let l = c .before .before .before .args .pool .now in exact-shape (se
 
 -- the unused slots are told, for the settings in the pool
 spared : (c : tie.After-survey-slots) →
-    let l = c .before .before .before .before .before .args .pool .now in Spared (settingsIn l) (words l) (c .survey-slots .result)
+    let l = c .before .before .before .before .before .args .pool .now in SlotsTold (settingsIn l) (words l) (c .survey-slots .result)
 spared c = rw (c .before .settings .ensures) at (c .survey-slots .ensures)
 
 -- behind the second test each unused slot is zero
@@ -41,26 +42,26 @@ idle c = not-false (c .before .before .survey-slots .result .ok) (c .if2 .left)
 -- the unused slots are no more than the slots
 few : (c : tie.Else2) →
     let found = c .before .before in
-    found .survey-slots .result .unused ≤ settingsIn (found .before .before .before .before .before .args .pool .now) .nodes
+    found .survey-slots .result .spare .unused ≤ settingsIn (found .before .before .before .before .before .args .pool .now) .nodes
 few c =
     let found = c .before .before in
     let l = found .before .before .before .before .before .args .pool .now in
-    omega (arith, spared found .free (idle c), unused-few 0 (nodesIn l), length-nodes (settingsIn l) (words l))
+    omega (arith, spared found .spared (idle c) .count, unused-few (nodesIn l), length-nodes (settingsIn l) (words l))
 
 -- the height that is found is that of the left edge
 edge : (c : tie.After-left-edge) →
-    let l = c .before .before .before .before .before .before .before .before .args .pool .now in c .left-edge .result ≡ heightAt (nodesIn l) 8 0
+    let l = c .before .before .before .before .before .before .before .before .before .args .pool .now in c .left-edge .result ≡ heightAt (nodesIn l) 8 0
 edge c =
-    let set = c .before .before .before .before in
+    let set = c .before .before .before .before .before in
     let l = set .before .before .before .before .args .pool .now in
     c .left-edge .ensures ∙ ap (λ (x : Settings). heightAt (nodes x (words l)) 8 0) (set .settings .ensures)
 
 -- the walk tells of the tree, for the settings in the pool
 told : (c : tie.After-tree-right) →
-    let set = c .before .before .before .before .before .before .before in
+    let set = c .before .before .before .before .before .before .before .before in
     let l = set .before .before .before .before .args .pool .now in
     Tells (c .tree-right .result) (SoundTree (settingsIn l) (words l))
-told c = rw (c .before .before .before .before .before .before .before .settings .ensures) at (c .tree-right .ensures)
+told c = rw (c .before .before .before .before .before .before .before .before .settings .ensures) at (c .tree-right .ensures)
 
 returns : tie.Need-returns
 returns c =
@@ -83,26 +84,26 @@ returns-2 c =
     (λ s. told-no (spared found .ok) (not-true (found .survey-slots .result .ok) (c .before .if2 .taken)) (pool-idle l s))
 
 left-edge-requires : tie.Need-left-edge-requires
-left-edge-requires c κs = let set = c .before .before .before in rw (set .settings .ensures) (shaped (set .before))
+left-edge-requires c κs = let set = c .before .before .before .before in rw (set .settings .ensures) (shaped (set .before))
 
 sub-tree-right : tie.Need-sub-tree-right
 sub-tree-right c =
-    let tested = c .before .before .before in
+    let tested = c .before .before .before .before in
     let set = tested .before .before .before in
     omega (arith, few tested, ap (λ (x : Settings). x .nodes) (set .settings .ensures))
 
 tree-right-requires : tie.Need-tree-right-requires
 tree-right-requires c κs =
-    let tested = c .before .before .before in
+    let tested = c .before .before .before .before in
     let found = tested .before .before in
     let set = found .before in
     rw (set .settings .ensures)
-    (shaped (set .before), record { height = edge (c .before .before); used = omega (arith, few tested, spared found .free (idle tested)) })
+    (shaped (set .before), record { height = edge (c .before .before); used = omega (arith, few tested, spared found .spared (idle tested) .count) })
 
 returns-3 : tie.Need-returns-3
 returns-3 c =
     let test = c .before .before in
-    let found = test .before .before .before .before .before .before in
+    let found = test .before .before .before .before .before .before .before in
     let l = found .before .before .before .before .before .args .pool .now in
     survey-not l (c .nothing3 .result) (c .nothing3 .ensures)
     (λ s. told-no (told test) (not-true (test .tree-right .result) (c .before .if3 .taken)) (pool-tree l s))
@@ -111,7 +112,7 @@ returns-4 : tie.Need-returns-4
 returns-4 c =
     let test = c .before in
     let walked = test .before .before .before in
-    let tested = walked .before in
+    let tested = walked .before .before in
     let found = tested .before .before in
     let right = found .before .before in
     let l = right .before .before .before .args .pool .now in
@@ -119,9 +120,9 @@ returns-4 c =
       sound =
           tells-yes (sound-pool l (headed right) (spared found .ok .holds (idle tested))
           (told test .holds (not-false (test .tree-right .result) (c .if3 .left))));
+      settings = λ t. found .before .settings .ensures;
       height = λ t. edge walked;
-      unused = λ t. spared found .free (idle tested);
-      low = λ t. spared found .low (idle tested);
+      spared = λ t. spared found .spared (idle tested);
       nothing = λ t. absurd (true≢false t);
     }
 

@@ -11,7 +11,6 @@ use Rattle.slots.specs.Nodes.{Node, nodes, nth, rowsAt, putKind, backNodes}
 use Rattle.batch_root.specs.Roots.{moved}
 use Rattle.slots.proofs.Nodes.{then, become, length-nodes}
 use Rattle.slots.proofs.Pairs.{kept-kind, kept-same}
-use Rattle.batch_root.proofs.Indexes.{pool-lowest}
 use Rattle.batch_root.proofs.Sets.{moved-all}
 use Rattle.batch_root.proofs.grow.move_root.Statement.{statement}
 use Rattle.batch_root.proofs.grow.move_root.Tie as tie
@@ -25,13 +24,13 @@ module _ (s : tie.Start) where
   ns = nodes (s .args .st) (words (s .args .pool .now))
 
   inside : new < s .args .st .nodes
-  inside = pool-lowest (s .args .st) (words (s .args .pool .now)) new (s .pre .lowest) (s .pre .some)
+  inside = s .pre .slot
 
   there : new < length ns
   there = omega (arith, inside, length-nodes (s .args .st) (words (s .args .pool .now)))
 
   free : nth ns new .kind ≡ 0
-  free = s .pre .lowest .here there
+  free = s .pre .free
 
   apart : 0 ≢ new
   apart e = s .pre .used (ap (λ (i : ℕ). nth ns i .kind) e ∙ free)

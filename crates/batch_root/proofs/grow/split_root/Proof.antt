@@ -1,40 +1,33 @@
 -- `split_root` meets its contract: what each call asks is there, and the last leaves the model's split (`proofs/Grows`). Assumes nothing.
-use native.Mathlib.Omega.{arith}
 use borrow.Author.Needs.{needs}
-use Rattle.batch_root.proofs.Grows.{to-move, a-nodes, below-lower, b-nodes, to-split, to-crown, below-upper, split-done}
+use Rattle.batch_root.proofs.Grows.{to-move, lower-taken, to-split, to-crown, upper-taken, split-done}
 use Rattle.batch_root.proofs.grow.split_root.Statement.{statement}
 use Rattle.batch_root.proofs.grow.split_root.Tie as tie
 
-lowest-unused-requires : tie.Need-lowest-unused-requires
-lowest-unused-requires c κs =
+after-taking-requires : tie.Need-after-taking-requires
+after-taking-requires c κs =
     let moved = c .before .before .before in
-    let pre = moved .before .before .before .pre in
-    let mv = moved .move-root .ensures in
-    (mv .held, (omega (arith, a-nodes pre), below-lower pre mv))
+    lower-taken (moved .before .before .before .pre) (moved .move-root .ensures)
 
 split-requires : tie.Need-split-requires
 split-requires c κs =
     let moved = c .before .before .before .before .before in
-    to-split (moved .before .before .before .pre) (moved .move-root .ensures) (c .before .lowest-unused .ensures)
+    to-split (moved .before .before .before .pre) (moved .move-root .ensures) (c .before .after-taking .ensures)
 
 crown-requires : tie.Need-crown-requires
 crown-requires c κs =
     let cut = c .before .before .before in
     let new = cut .before .before in
     let moved = new .before .before .before .before in
-    to-crown (moved .before .before .before .pre) (moved .move-root .ensures) (new .lowest-unused .ensures) (cut .split .ensures)
+    to-crown (moved .before .before .before .pre) (moved .move-root .ensures) (new .after-taking .ensures) (cut .split .ensures)
 
-lowest-unused-requires-2 : tie.Need-lowest-unused-requires-2
-lowest-unused-requires-2 c κs =
+after-taking-requires-2 : tie.Need-after-taking-requires-2
+after-taking-requires-2 c κs =
     let crowned = c .before .before .before in
     let cut = crowned .before .before .before .before in
     let new = cut .before .before in
     let moved = new .before .before .before .before in
-    let pre = moved .before .before .before .pre in
-    let mv = moved .move-root .ensures in
-    let lo = new .lowest-unused .ensures in
-    let cr = crowned .crown .ensures in
-    (cr .held, (omega (arith, b-nodes pre mv lo), below-upper pre mv lo (cut .split .ensures) cr))
+    upper-taken (moved .before .before .before .pre) (moved .move-root .ensures) (new .after-taking .ensures) (cut .split .ensures) (crowned .crown .ensures)
 
 returns : tie.Need-returns
 returns c =
@@ -42,17 +35,17 @@ returns c =
     let cut = crowned .before .before .before .before in
     let new = cut .before .before in
     let moved = new .before .before .before .before in
-    split-done (moved .before .before .before .pre) (moved .move-root .ensures) (new .lowest-unused .ensures) (cut .split .ensures) (crowned .crown .ensures)
-    (c .lowest-unused2 .ensures)
+    split-done (moved .before .before .before .pre) (moved .move-root .ensures) (new .after-taking .ensures) (cut .split .ensures) (crowned .crown .ensures)
+    (c .after-taking2 .ensures)
 
 pub split-root-spec : {M : Type 1} → statement M
 split-root-spec =
     tie.close
     (tie.spec
     (λ c κs. to-move (c .before .before .pre))
-    lowest-unused-requires
+    after-taking-requires
     split-requires
     crown-requires
-    lowest-unused-requires-2
+    after-taking-requires-2
     (λ c. search needs)
     returns)

@@ -10,10 +10,11 @@ use Rattle.batch_root.proofs.shrink.collapse.Statement.{statement}
 use Rattle.batch_root.proofs.shrink.collapse.Tie as tie
 
 abbrev Inv-loop : tie.InvT-loop
-Inv-loop pool₀ st height h₀ pool h = (length pool ≡ length pool₀) × Sinking st (words pool₀) (words pool) height h
+Inv-loop pool₀ st height₀ spare₀ pool height spare =
+    (length pool ≡ length pool₀) × Sinking st (words pool₀) (words pool) height₀ height spare
 
 abbrev μ-loop : tie.MeasureT-loop
-μ-loop pool₀ st height h₀ pool h = h
+μ-loop pool₀ st height₀ spare₀ pool height spare = height
 
 count-requires : tie.Need-count-requires Inv-loop μ-loop
 count-requires c κs =
@@ -24,7 +25,7 @@ lift-child-requires : tie.Need-lift-child-requires Inv-loop μ-loop
 lift-child-requires c κs =
     let i = c .before .before .before .before .before .loop in
     let n = c .before .before .count in
-    let e : i .h ≡ suc (i .h - 1) = omega (arith, c .before .before .before .before .loop-test .taken) in
+    let e : i .height ≡ suc (i .height - 1) = omega (arith, c .before .before .before .before .loop-test .taken) in
     lone (i .inv .1) e (sym (n .ensures .is) ∙ eqb-true (n .result) 1 (c .before .if1 .taken))
 
 loop-again : tie.Need-loop-again Inv-loop μ-loop
@@ -35,14 +36,14 @@ loop-again c =
     let i = tested .before .loop in
     let n = alone .before .count in
     let w = lifted .lift-child in
-    let e : i .h ≡ suc (i .h - 1) = omega (arith, tested .loop-test .taken) in
+    let e : i .height ≡ suc (i .height - 1) = omega (arith, tested .loop-test .taken) in
     (w .kept .0 ∙ i .inv .0, sink-on (i .inv .1) e (sym (n .ensures .is) ∙ eqb-true (n .result) 1 (alone .if1 .taken)) (w .ensures))
 
 returns : tie.Need-returns Inv-loop μ-loop
 returns c =
     let i = c .before .before .before .before .loop in
     let n = c .before .count in
-    let e : i .h ≡ suc (i .h - 1) = omega (arith, c .before .before .before .loop-test .taken) in
+    let e : i .height ≡ suc (i .height - 1) = omega (arith, c .before .before .before .loop-test .taken) in
     sink-wide (i .inv .1) e (λ z. eqb-false (n .result) 1 (c .if1 .left) (n .ensures .is ∙ z))
 
 returns-2 : tie.Need-returns-2 Inv-loop μ-loop
@@ -54,7 +55,7 @@ collapse-spec =
     (tie.spec
     Inv-loop
     μ-loop
-    (λ c. (refl, sink-start (c .before .pre)))
+    (λ c. let start = c .before .before in (refl, sink-start (start .pre .0) (start .pre .1)))
     count-requires
     (λ c. omega (arith, c .before .before .before .loop-test .taken))
     lift-child-requires

@@ -1,5 +1,6 @@
 -- `lift_child` meets its contract: the root's row taken out, the child's kind, and the child joined to the root lift it (`proofs/Sinks`). Assumes nothing.
 use borrow.Author.Needs.{needs}
+use Rattle.tree_spare.proofs.Spares.{spared-few}
 use Rattle.batch_root.proofs.Sinks.{to-join, child-lifted}
 use Rattle.batch_root.proofs.shrink.lift_child.Statement.{statement}
 use Rattle.batch_root.proofs.shrink.lift_child.Tie as tie
@@ -14,15 +15,27 @@ join-requires c κs =
     to-join (row .before .before .before .pre) (row .row-at .ensures) (child .child-of .ensures) (kind .kind-for .ensures) (gone .remove-row .ensures)
     (marked .set-kind .ensures)
 
+after-freeing-requires : tie.Need-after-freeing-requires
+after-freeing-requires c κs =
+    let joined = c .before .before in
+    let marked = joined .before .before .before .before in
+    let gone = marked .before .before .before .before in
+    let kind = gone .before .before in
+    let child = kind .before in
+    let row = child .before in
+    let pre = row .before .before .before .pre in
+    spared-few _ _ (pre .spared) (pre .keeps .held)
+
 returns : tie.Need-returns
 returns c =
-    let marked = c .before .before .before .before .before .before in
+    let joined = c .before .before .before in
+    let marked = joined .before .before .before .before in
     let gone = marked .before .before .before .before in
     let kind = gone .before .before in
     let child = kind .before in
     let row = child .before in
     child-lifted (row .before .before .before .pre) (row .row-at .ensures) (child .child-of .ensures) (kind .kind-for .ensures) (gone .remove-row .ensures)
-    (marked .set-kind .ensures) (c .before .before .join .ensures)
+    (marked .set-kind .ensures) (joined .join .ensures) (c .after-freeing .ensures)
 
 pub lift-child-spec : {M : Type 1} → statement M
 lift-child-spec =
@@ -34,5 +47,6 @@ lift-child-spec =
     (λ c κs. search needs)
     (λ c κs. search needs)
     join-requires
+    after-freeing-requires
     (λ c. search needs)
     returns)

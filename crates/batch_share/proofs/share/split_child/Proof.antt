@@ -2,7 +2,7 @@
 use native.Mathlib.Omega.{arith}
 use borrow.Author.Needs.{needs}
 use Rattle.batch_share.proofs.Focuses.{poise-focus, focus-sits, focus-few}
-use Rattle.batch_share.proofs.Halves.{new-in, can-split, upper-weighs, upper-room, lower-renews, half-below, half-left}
+use Rattle.batch_share.proofs.Halves.{can-split, upper-weighs, upper-room, lower-renews, half-taken, half-left}
 use Rattle.batch_share.proofs.share.split_child.Statement.{statement}
 use Rattle.batch_share.proofs.share.split_child.Tie as tie
 
@@ -37,24 +37,15 @@ renew-requires c κs =
     lower-renews (child .before .before .before .pre) _ (child .child-at .ensures .is) _ (cut .split .ensures) _ (weighed .weigh .ensures) _
     (put .insert-row .ensures)
 
-add-lowest-unused : tie.Need-add-lowest-unused
-add-lowest-unused c =
-    let put = c .before .before .before .before .before .before .before in
-    let child = put .before .before .before .before .before .before .before .before in
-    let pre = child .before .before .before .pre in
-    omega (arith, new-in pre _ (child .child-at .ensures .is), pre .family .held .shape .limits .bounded)
-
-lowest-unused-requires : tie.Need-lowest-unused-requires
-lowest-unused-requires c κs =
+after-taking-requires : tie.Need-after-taking-requires
+after-taking-requires c κs =
     let renewed = c .before .before .before in
     let put = renewed .before .before .before .before in
     let weighed = put .before .before in
     let cut = weighed .before .before .before .before in
     let child = cut .before .before in
-    let pre = child .before .before .before .pre in
-    let named = child .child-at .ensures .is in
-    let below = half-below pre _ named _ (cut .split .ensures) _ (weighed .weigh .ensures) _ (put .insert-row .ensures) _ (renewed .renew .ensures) in
-    (renewed .renew .ensures .held, (omega (arith, new-in pre _ named), below))
+    half-taken (child .before .before .before .pre) _ (child .child-at .ensures .is) _ (cut .split .ensures) _ (weighed .weigh .ensures) _
+    (put .insert-row .ensures) _ (renewed .renew .ensures)
 
 returns : tie.Need-returns
 returns c =
@@ -64,7 +55,7 @@ returns c =
     let cut = weighed .before .before .before .before in
     let child = cut .before .before in
     half-left (child .before .before .before .pre) _ (child .child-at .ensures .is) _ (cut .split .ensures) _ (weighed .weigh .ensures) _
-    (put .insert-row .ensures) _ (renewed .renew .ensures) _ (c .lowest-unused .ensures)
+    (put .insert-row .ensures) _ (renewed .renew .ensures) _ (c .after-taking .ensures)
 
 pub split-child-spec : {M : Type 1} → statement M
 split-child-spec =
@@ -76,7 +67,6 @@ split-child-spec =
     add-insert-row
     insert-row-requires
     renew-requires
-    add-lowest-unused
-    lowest-unused-requires
+    after-taking-requires
     (λ c. search needs)
     returns)

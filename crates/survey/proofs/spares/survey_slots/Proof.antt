@@ -38,8 +38,7 @@ returns c =
       ok = tells-no (λ z. told-no (c .before .slot-zero .ensures) (not-true (c .before .slot-zero .result) (c .if2 .taken))
           (z (at .s - 1) (sym (kind-node (a .st) (words (a .pool .now)) (at .s - 1)) ∙ sym (c .before .before .before .raw-kind .ensures)
           ∙ c .before .before .if1 .taken)));
-      free = λ e. never _ e;
-      low = λ e. never _ e;
+      spared = λ e. never _ e;
     }
 
 add-unused : tie.Need-add-unused Inv-loop μ-loop

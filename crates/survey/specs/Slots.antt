@@ -3,21 +3,18 @@ use Prim.Native.Nat.{ℕ}
 use mathlib.Core.Path.{_≡_}
 use mathlib.Core.Bool.{true}
 use mathlib.Core.List.{List}
-use lib.ListN.{length}
 use Rattle.slots_raw.specs.Slots.{rawAt}
 use Rattle.slots.specs.Nodes.{nodes, nth, unused, rawFor}
-use Rattle.slots_find.specs.Search.{Lowest}
 use Rattle.model.specs.declared.Settings.{Settings}
 use Rattle.model.specs.Answer.{Tells}
-use Rattle.tree.specs.Bridge.{unusedOf}
+use Rattle.tree_spare.specs.Spared.{Spared}
 use Rattle.survey.specs.declared.spares.Spares.{Spares}
 
 -- an unused slot has nothing but zeros
 abbrev pub Idle : Settings → List ℕ → ℕ → Type 0
 Idle st W s = nth (nodes st W) s .kind ≡ 0 → rawAt st W s ≡ rawFor (st .order) unused
 
--- r tells whether every unused slot is so; if so, how many they are, and the lowest of them
-pub record Spared (st : Settings) (W : List ℕ) (r : Spares) : Type 0 where
+-- r tells whether every unused slot is so; if so, which they are
+pub record SlotsTold (st : Settings) (W : List ℕ) (r : Spares) : Type 0 where
   pub ok : Tells (r .ok) ((s : ℕ) → Idle st W s)
-  pub free : r .ok ≡ true → r .unused ≡ length (unusedOf (nodes st W))
-  pub low : r .ok ≡ true → Lowest (nodes st W) (r .low)
+  pub spared : r .ok ≡ true → Spared (nodes st W) (r .spare)

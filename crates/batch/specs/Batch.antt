@@ -1,0 +1,37 @@
+-- One batch on the index that a pool holds: the model's `batch`. Assumes nothing.
+use Prim.Native.Nat.{ℕ}
+use mathlib.Core.Path.{_≡_}
+use mathlib.Core.List.{List}
+use lib.ListN.{take}
+use Rattle.slots.specs.Nodes.{Held, nodes}
+use Rattle.model.specs.declared.Settings.{Settings}
+use Rattle.model.specs.Change.{Batched, batch}
+use Rattle.model.specs.Refuse.{Call, tasksOf, refusal}
+use Rattle.model.specs.Sound.{Sound}
+use Rattle.model.specs.Demands.{Lent}
+use Rattle.tree.specs.Bridge.{HoldsIndex}
+use Rattle.tree_spare.specs.Spared.{Spared}
+use Rattle.batch_root.specs.declared.Root.{Root}
+use Rattle.batch_root.specs.Roots.{indexAt}
+use Rattle.batch.specs.declared.Ran.{Ran}
+
+-- a batch that is not refused, of a sound index
+pub record Accepted (st : Settings) (W : List ℕ) (root : Root) (c : Call) : Type 0 where
+  pub held : Held st W
+  pub holds : HoldsIndex (nodes st W) (indexAt (nodes st W) (root .height))
+  pub sound : Sound st (indexAt (nodes st W) (root .height))
+  pub spared : Spared (nodes st W) (root .spare)
+  pub lent : Lent c
+  pub accepted : refusal st c (indexAt (nodes st W) (root .height)) ≡ 0
+
+-- the pool holds the model's index, and the answer is of it
+pub record Batches (st : Settings) (W W′ : List ℕ) (b : Batched) (r : Ran) : Type 0 where
+  pub held : Held st W′
+  pub header : take 4 W′ ≡ take 4 W
+  pub holds : HoldsIndex (nodes st W′) (b .index)
+  pub counts : r .counts ≡ b .counts
+  pub height : r .root .height ≡ b .index .height
+  pub spared : Spared (nodes st W′) (r .root .spare)
+
+abbrev pub Changed : Settings → List ℕ → List ℕ → ℕ → Call → Ran → Type 0
+Changed st W W′ h c r = Batches st W W′ (batch st (tasksOf c) (indexAt (nodes st W) h)) r

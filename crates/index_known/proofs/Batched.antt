@@ -1,0 +1,118 @@
+-- What the root has done to a pool that is known keeps the promise of a batch, and the pool is known again. Assumes nothing.
+use Prim.Native.Nat.{ℕ, zero, suc, _≤_}
+use mathlib.Core.Path.{_≡_, refl, sym, ap, _∙_, subst}
+use mathlib.Core.Logic.{_≢_}
+use mathlib.Core.List.{List}
+use lib.ListN.{length}
+use Rattle.words.specs.Words.{words}
+use Rattle.words.proofs.Laws.{Bytes}
+use Rattle.slots.specs.Nodes.{nodes}
+use Rattle.model.specs.declared.Settings.{Settings}
+use Rattle.model.specs.declared.Counts.{Counts}
+use Rattle.model.specs.Tree.{Index}
+use Rattle.model.specs.Change.{Batched, batch}
+use Rattle.model.specs.Answer.{refused, done, unless}
+use Rattle.model.specs.Refuse.{Call, tasksOf, refusal}
+use Rattle.model.specs.Demands.{Lent}
+use Rattle.model.specs.Demands as D
+use Rattle.model.proofs.Demands.{one-batch}
+use Rattle.tree.specs.Bridge.{HoldsIndex}
+use Rattle.tree.specs.Pool.{settingsIn, nodesIn, indexOf, imageOf, SoundPool}
+use Rattle.tree.proofs.Pools.{sound-held, sound-index, sound-header, sound-holds-index, held-bytes, image-sound, image-index, image-settings}
+use Rattle.tree_spare.specs.Spared.{Spared}
+use Rattle.batch_root.specs.declared.Root.{Root}
+use Rattle.batch_root.specs.Roots.{indexAt}
+use Rattle.batch.specs.declared.Ran.{Ran}
+use Rattle.batch.specs.Batch.{Accepted, Changed}
+use Rattle.index_promise.specs.declared.BatchAnswer.the-variants as Batch
+use Rattle.index_promise.specs.Promise.{holds, Left, _leaving_, leaves, Batches}
+use Rattle.index_refuse.specs.Refusals.{Refuses}
+use Rattle.index_known.specs.declared.Known.{Known}
+use Rattle.index_known.specs.Knows.{Knows}
+
+module _ {l : List ℕ} {k : Known} (w : Knows l k) where
+  abbrev st : Settings
+  st = settingsIn l
+
+  -- what the code reads is the pool's
+  pub narrow : k .settings .order ≤ 32
+  narrow = rw (w .settings) (w .sound .settings .narrow)
+
+  -- the index that the root is handed
+  same : indexAt (nodesIn l) (k .height) ≡ indexOf l
+  same = ap (indexAt (nodesIn l)) (w .height)
+
+  module _ (c : Call) where
+    abbrev left : ℕ → Left Counts
+    left n = leaves (λ b. b .counts) (λ b. imageOf st (b .index)) l (unless n (batch st (tasksOf c) (indexOf l)))
+
+    module _ (n : ℕ) (r : Refuses (k .settings) (k .height) (k .spare .unused) c n) where
+      refusal-is : n ≡ refusal st c (indexOf l)
+      refusal-is = subst (λ (u : Settings). Refuses u (k .height) (k .spare .unused) c n) (w .settings) r (indexOf l) (sym (w .height)) (sym (w .spared .count))
+
+      -- REFUSED
+      pub store-refused : n ≢ 0 → Batches c l (Batch.Refused n) l
+      store-refused some = holds (w .sound) (by n some ∙ ap left refusal-is)
+        where
+          by : (n : ℕ) → n ≢ 0 → (refused n leaving l) ≡ left n
+          by zero h = absurd (h refl)
+          by (suc n) h = refl
+
+      -- NOT REFUSED
+      module _ (lent : Lent c) (none : n ≡ 0) where
+        passed : refusal st c (indexOf l) ≡ 0
+        passed = sym refusal-is ∙ none
+
+        own : Accepted st (words l) (record { height = k .height; spare = k .spare }) c
+        own =
+            record {
+              held = sound-held l (w .sound);
+              holds = rw same (sound-holds-index l (w .sound));
+              sound = rw same (sound-index l (w .sound));
+              spared = w .spared;
+              lent = lent;
+              accepted = rw same passed;
+            }
+
+        pub store-accepted : Accepted (k .settings) (words l) (record { height = k .height; spare = k .spare }) c
+        store-accepted = subst (λ (u : Settings). Accepted u (words l) (record { height = k .height; spare = k .spare }) c) (sym (w .settings)) own
+
+        module _ (m : List ℕ) (ran : Ran) (d : Changed (k .settings) (words l) (words m) (k .height) c ran) (len : length m ≡ length l) (bytes : Bytes m) where
+          did : Changed st (words l) (words m) (k .height) c ran
+          did = subst (λ (u : Settings). Changed u (words l) (words m) (k .height) c ran) (w .settings) d
+
+          abbrev b : Batched
+          b = batch st (tasksOf c) (indexOf l)
+
+          from : batch st (tasksOf c) (indexAt (nodesIn l) (k .height)) ≡ b
+          from = ap (batch st (tasksOf c)) same
+
+          good : D.Batches st c (indexOf l) b
+          good = one-batch st c (indexOf l) (sound-index l (w .sound)) lent passed
+
+          image : m ≡ imageOf st (b .index)
+          image =
+              held-bytes st (b .index) (words m) m (did .held) (did .header ∙ sound-header l (w .sound))
+              (subst (λ (x : Batched). HoldsIndex (nodes st (words m)) (x .index)) from (did .holds)) (good .sound) refl (len ∙ w .sound .exact) bytes
+
+          pub store-done : Batches c l (Batch.Done (ran .counts)) m
+          store-done =
+              let counts : ran .counts ≡ b .counts = did .counts ∙ ap (λ (x : Batched). x .counts) from in
+              holds (w .sound)
+              (ap (λ (x : Counts). done x leaving m) counts ∙ ap (λ (x : List ℕ). done (b .counts) leaving x) image
+              ∙ ap left (sym passed))
+
+          settings-kept : settingsIn m ≡ st
+          settings-kept = ap settingsIn image ∙ image-settings st (b .index) (good .sound)
+
+          index-now : indexOf m ≡ b .index
+          index-now = ap indexOf image ∙ image-index st (b .index) (good .sound)
+
+          pub store-known : Knows m (record { settings = k .settings; height = ran .root .height; spare = ran .root .spare })
+          store-known =
+              record {
+                sound = subst SoundPool (sym image) (image-sound st (b .index) (good .sound));
+                settings = w .settings ∙ sym settings-kept;
+                height = did .height ∙ ap (λ (x : Batched). x .index .height) from ∙ ap (λ (x : Index). x .height) (sym index-now);
+                spared = subst (λ (u : Settings). Spared (nodes u (words m)) (ran .root .spare)) (sym settings-kept) (did .spared);
+              }

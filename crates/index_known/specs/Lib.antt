@@ -1,0 +1,2 @@
+-- `Knows` says what is known of a pool.
+pub mod Knows

@@ -1,0 +1,2 @@
+-- `Spares` has the laws of what is known of the unused slots.
+pub mod Spares

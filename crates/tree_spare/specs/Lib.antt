@@ -1,0 +1,2 @@
+-- `Spared` says what is known of the unused slots of a pool, and how that changes.
+pub mod Spared
