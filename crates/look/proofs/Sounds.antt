@@ -1,27 +1,24 @@
 -- A sound pool gives what the calls ask, and what they have listed and counted is what the model says of its index. Assumes nothing.
 use mathlib.Core.Path.{_≡_, refl, sym, ap, _∙_, subst}
 use mathlib.Core.Logic.{_≢_}
-use mathlib.Core.Bool.{false, cond}
-use mathlib.Core.List.{List, [], _∷_, map, reverse, reverse-cons, append-nil}
-use Prim.Native.Nat.{ℕ, zero, suc, _/_, _≤_, _<_}
+use mathlib.Core.Bool.{false}
+use mathlib.Core.List.{List, []}
+use Prim.Native.Nat.{ℕ, zero, suc, _/_, _<_}
 use native.Mathlib.Omega.{arith}
-use lib.ListN.{length, length-append}
+use lib.ListN.{length}
 use Rattle.words.specs.Words.{words}
 use Rattle.slots.specs.Nodes.{nodes, nth, rowsAt}
 use Rattle.slots.specs.Nodes as S
 use Rattle.model.specs.declared.Entry.{Entry}
 use Rattle.model.specs.declared.Settings.{Settings}
-use Rattle.model.specs.declared.Direction.{Direction}
-use Rattle.model.specs.declared.Direction.the-variants.{Up, Down}
 use Rattle.model.specs.Lists.{concat}
-use Rattle.model.specs.Tree.{Tree, len, entries, entriesOf, slots, greatestKey, totalsOf}
+use Rattle.model.specs.Tree.{Tree, len, entries, entriesOf, totalsOf}
 use Rattle.model.specs.declared.Request.{Request}
-use Rattle.model.specs.Look.{listing, getAll, found, ends, untilEnd, reached, entered, openings, dueIn}
+use Rattle.model.specs.Look.{listing, getAll, found, entering, openings, dueIn}
 use Rattle.model.specs.Look as M
 use Rattle.model.specs.Sound.{Rooted, Sound}
-use Rattle.model.proofs.Lists.{by-test, all-head}
-use Rattle.model.proofs.Trees.{slotsIn}
-use Rattle.model.proofs.Scans.{openings-law}
+use Rattle.model.proofs.Lists.{all-head}
+use Rattle.model.proofs.Scans.{openings-few, entering-thin, openings-law}
 use Rattle.tree.specs.Bridge.{nodeFor, treeAt}
 use Rattle.tree.specs.Sums.{sumRows, Sums, Weighs}
 use Rattle.tree.specs.Pool.{settingsIn, nodesIn, indexOf}
@@ -32,55 +29,11 @@ use Rattle.tree.proofs.SoundHolds.{slot-read}
 use Rattle.look_output.specs.declared.Listed.{Listed}
 use Rattle.look_output.specs.declared.Scanned.{Scanned}
 use Rattle.look_output.specs.Output.{roomIn, page, enlistAll, freshPage}
-use Rattle.look_scan.specs.Walk.{Walk, walkAt, visitAll, openingsOf, ToScan}
+use Rattle.look_scan.specs.Walk.{Walk, walkAt, visitAll, ToScan}
 use Rattle.look.specs.Lookup.{Grown}
 use Rattle.look.specs.Calls.{InPool, Writes}
 use Rattle.look_output.proofs.Outputs.{Shows, shows-none, shows-all}
-use Rattle.look_scan.proofs.Visits.{openings-append, visits-show, visits-count}
-
--- A SCAN OPENS NO MORE NODES than the tree has
-
-module _ (q : Request) (h : ℕ) (f : (c : Tree h) → length (openings q h c) ≤ length (slots (suc h) c)) where
-  one-few : (c : Tree h) → length (openingsOf q h (c ∷ [])) ≤ length (slots (suc h) c)
-  one-few c =
-      by-test (λ (cs : List (Tree h)). length (concat (map (openings q h) cs)) ≤ length (slots (suc h) c)) (entered q (suc h) c)
-      (λ _. omega (arith, ap length (append-nil (openings q h c)), f c)) (λ _. omega arith)
-
-  up-few : (cs : List (Tree h)) → length (openingsOf q h (untilEnd q (suc h) cs)) ≤ length (slotsIn (suc h) cs)
-  up-few [] = omega arith
-  up-few (c ∷ cs) =
-      let rest : List (Tree h) = cond (ends (q .end) (greatestKey (suc h) c)) (untilEnd q (suc h) cs) [] in
-      let left : length (openingsOf q h (cond (ends (q .end) (greatestKey (suc h) c)) (untilEnd q (suc h) cs) [])) ≤ length (slotsIn (suc h) cs) =
-      by-test (λ (ds : List (Tree h)). length (openingsOf q h ds) ≤ length (slotsIn (suc h) cs)) (ends (q .end) (greatestKey (suc h) c))
-      (λ _. up-few cs) (λ _. omega arith) in
-      omega (
-        arith,
-        ap length (openings-append q h (c ∷ []) rest),
-        length-append (openingsOf q h (c ∷ [])) (openingsOf q h rest),
-        one-few c,
-        length-append (slots (suc h) c) (slotsIn (suc h) cs),
-      )
-
-  down-few : (cs : List (Tree h)) → length (openingsOf q h (reverse cs)) ≤ length (slotsIn (suc h) cs)
-  down-few [] = omega arith
-  down-few (c ∷ cs) =
-      omega (
-        arith,
-        ap (λ (ds : List (Tree h)). length (openingsOf q h ds)) (reverse-cons c cs),
-        ap length (openings-append q h (reverse cs) (c ∷ [])),
-        length-append (openingsOf q h (reverse cs)) (openingsOf q h (c ∷ [])),
-        down-few cs,
-        one-few c,
-        length-append (slots (suc h) c) (slotsIn (suc h) cs),
-      )
-
-  children-few : (d : Direction) (cs : List (Tree h)) → length (openingsOf q h (reached q d (suc h) cs)) ≤ length (slotsIn (suc h) cs)
-  children-few Up cs = up-few cs
-  children-few Down cs = down-few cs
-
-openings-few : (q : Request) (h : ℕ) (n : Tree h) → length (openings q h n) ≤ length (slots (suc h) n)
-openings-few q zero n = omega arith
-openings-few q (suc h) n = omega (arith, children-few q h (openings-few q h) (q .direction) (n .items))
+use Rattle.look_scan.proofs.Visits.{visits-show, visits-count}
 
 -- A SOUND POOL
 
@@ -148,7 +101,11 @@ module _ (l : List ℕ) (st : Settings) (height : ℕ) (k : InPool l st height) 
         ready = record {
           fits = omega arith;
           fresh = refl;
-          few = omega (arith, openings-few q (indexOf l .height) (indexOf l .root), used-few (settingsIn l) (indexOf l) sound);
+          few = omega (
+            arith,
+            openings-few q (settingsIn l) (entering q) (entering-thin q (settingsIn l)) (indexOf l .height) (indexOf l .root) (sound .whole) (sound .sorted),
+            used-few (settingsIn l) (indexOf l) sound,
+          );
         };
       })
 

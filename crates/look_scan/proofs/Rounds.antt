@@ -17,8 +17,7 @@ use Rattle.model.specs.declared.Request.{Request}
 use Rattle.model.specs.Look.{entered, openings}
 use Rattle.tree.specs.Bridge.{rowFor, childOf, Holds, treeAt}
 use Rattle.look_output.specs.declared.Scanned.{Scanned}
-use Rattle.model.specs.declared.Request.{Request}
-use Rattle.look_scan.specs.Walk.{enters, goesOn, placeIn, Walk, walkAt, visitAll, openingsOf, ToScan, ToEnter}
+use Rattle.look_scan.specs.Walk.{rowEnters, goesOn, placeIn, Walk, walkAt, visitAll, openingsOf, ToScan, ToEnter}
 use Rattle.tree.proofs.Children.{child-row, child-held}
 use Rattle.look_scan.proofs.Visits.{restOf, rest-all, rest-next, rest-end, visit-append, visit-ended, visit-few, inner-visited}
 
@@ -28,17 +27,17 @@ module _ (st : Settings) (W : List ℕ) (h : ℕ) (r : Row) (q : Request) (out :
   abbrev child : Tree h
   child = treeAt (nodes st W) h (childOf r)
 
-  enters-is : enters q r ≡ entered q (suc h) child
-  enters-is = ap (enters q) (k .row)
+  enters-is : rowEnters q r ≡ entered q (suc h) child
+  enters-is = ap (rowEnters q) (k .row)
 
   -- a child that is passed over adds nothing
-  pub passed-over : enters q r ≡ false → walkAt out w ≡ visitAll room (openingsOf q h (child ∷ [])) (walkAt out w)
+  pub passed-over : rowEnters q r ≡ false → walkAt out w ≡ visitAll room (openingsOf q h (child ∷ [])) (walkAt out w)
   passed-over e = rw (sym enters-is ∙ e) refl
 
-  child-openings : enters q r ≡ true → openingsOf q h (child ∷ []) ≡ openings q h child
+  child-openings : rowEnters q r ≡ true → openingsOf q h (child ∷ []) ≡ openings q h child
   child-openings e = rw (sym enters-is ∙ e) (append-nil (openings q h child))
 
-  pub to-child : (s : ℕ) → s ≡ childOf r → enters q r ≡ true → ToScan st W h s q out room w
+  pub to-child : (s : ℕ) → s ≡ childOf r → rowEnters q r ≡ true → ToScan st W h s q out room w
   to-child s e t =
       subst (λ (n : ℕ). ToScan st W h n q out room w) (sym e)
       (record {
@@ -47,7 +46,7 @@ module _ (st : Settings) (W : List ℕ) (h : ℕ) (r : Row) (q : Request) (out :
         ready = record { fits = k .ready .fits; fresh = k .ready .fresh; few = subst (λ (l : List (List Entry)). w .opened + length l ≤ 16384) (child-openings t) (k .ready .few) };
       })
 
-  pub from-child : (s : ℕ) (v : Walk) → s ≡ childOf r → enters q r ≡ true → v ≡ visitAll room (openings q h (treeAt (nodes st W) h s)) (walkAt out w)
+  pub from-child : (s : ℕ) (v : Walk) → s ≡ childOf r → rowEnters q r ≡ true → v ≡ visitAll room (openings q h (treeAt (nodes st W) h s)) (walkAt out w)
       → v ≡ visitAll room (openingsOf q h (child ∷ [])) (walkAt out w)
   from-child s v e t g =
       g ∙ ap (λ (n : ℕ). visitAll room (openings q h (treeAt (nodes st W) h n)) (walkAt out w)) e

@@ -20,7 +20,7 @@ use Rattle.model.specs.Lists.{concat, keep}
 use Rattle.model.specs.Tree.{Item, Tree, greatestKey}
 use Rattle.model.specs.declared.Request.{Request}
 use Rattle.model.specs.Look.{turned, due, untilEnd, reached, entered, openings, countTo}
-use Rattle.model.proofs.Lists.{by-test, keep-append}
+use Rattle.model.proofs.Lists.{by-test, parts-append, keep-append, keep-reverse}
 use Rattle.tree.specs.Bridge.{entryOf, childOf, treeAt}
 use Rattle.look_output.specs.declared.Listed.{Listed}
 use Rattle.look_output.specs.declared.Scanned.{Scanned}
@@ -106,9 +106,11 @@ abbrev onward : Request → Direction → (h : ℕ) → List (Item h) → List (
 onward q Up h cs = untilEnd q h cs
 onward q Down h cs = cs
 
-onward-reached : (q : Request) (d : Direction) (h : ℕ) (cs : List (Item h)) → reached q d h cs ≡ onward q d h (turned d cs)
-onward-reached q Up h cs = refl
-onward-reached q Down h cs = refl
+-- the children that are entered, in the order of the scan
+entering-onward : (q : Request) (d : Direction) (h : ℕ) (cs : List (Item h))
+    → turned d (keep (entered q h) (reached q d h cs)) ≡ keep (entered q h) (onward q d h (turned d cs))
+entering-onward q Up h cs = refl
+entering-onward q Down h cs = sym (keep-reverse (entered q h) cs)
 
 onward-none : (q : Request) (d : Direction) (h : ℕ) → _≡_ {A = List (Item h)} (onward q d h []) []
 onward-none q Up h = refl
@@ -119,15 +121,10 @@ onward-next : (q : Request) (d : Direction) (h : ℕ) (c : Item h) (cs : List (I
 onward-next q Up h c cs = refl
 onward-next q Down h c cs = refl
 
-pub openings-append : (q : Request) (h : ℕ) (a b : List (Tree h)) → openingsOf q h (a ++ b) ≡ openingsOf q h a ++ openingsOf q h b
-openings-append q h [] b = refl
-openings-append q h (c ∷ a) b = go (entered q (suc h) c) (openings-append q h a b)
-  where
-    go : (t : Bool) → openingsOf q h (a ++ b) ≡ openingsOf q h a ++ openingsOf q h b
-        → concat (map (openings q h) (cond t (c ∷ keep (entered q (suc h)) (a ++ b)) (keep (entered q (suc h)) (a ++ b))))
-        ≡ concat (map (openings q h) (cond t (c ∷ keep (entered q (suc h)) a) (keep (entered q (suc h)) a))) ++ openingsOf q h b
-    go true e = ap (λ (l : List (List Entry)). openings q h c ++ l) e ∙ sym (append-assoc (openings q h c) (openingsOf q h a) (openingsOf q h b))
-    go false e = e
+openings-append : (q : Request) (h : ℕ) (a b : List (Tree h)) → openingsOf q h (a ++ b) ≡ openingsOf q h a ++ openingsOf q h b
+openings-append q h a b =
+    ap (λ (cs : List (Tree h)). concat (map (openings q h) cs)) (keep-append (entered q (suc h)) a b)
+    ∙ parts-append (openings q h) (keep (entered q (suc h)) a) (keep (entered q (suc h)) b)
 
 module _ (q : Request) (ns : List S.Node) (h : ℕ) (rs : List Row) where
   abbrev kids : List (Tree h)
@@ -138,7 +135,7 @@ module _ (q : Request) (ns : List S.Node) (h : ℕ) (rs : List Row) where
   restOf j = openingsOf q h (onward q (q .direction) (suc h) (drop j (turned (q .direction) kids)))
 
   pub rest-all : (s : ℕ) → openings q (suc h) (record { slot = s; items = kids }) ≡ [] ∷ restOf 0
-  rest-all s = ap (λ (cs : List (Tree h)). [] ∷ openingsOf q h cs) (onward-reached q (q .direction) (suc h) kids)
+  rest-all s = ap (λ (cs : List (Tree h)). [] ∷ concat (map (openings q h) cs)) (entering-onward q (q .direction) (suc h) kids)
 
   abbrev pub kidOf : Row → Tree h
   kidOf r = treeAt ns h (childOf r)

@@ -1,10 +1,9 @@
 -- A scan's walk: what it asks of rows, and what the nodes that it opens add to the output, one after the other. Assumes nothing.
 use Prim.Native.Nat.{ℕ, suc, _+_, _-_, _*_, _≤_, _<_}
 use mathlib.Core.Path.{_≡_}
-use mathlib.Core.Bool.{Bool, true, false, cond, _&&_}
+use mathlib.Core.Bool.{Bool, true, false, cond}
 use mathlib.Core.List.{List, [], _∷_, map}
 use lib.ListN.{length}
-use lib.Dec.{leb}
 use Rattle.slots_raw.specs.declared.Row.{Row}
 use Rattle.slots.specs.Nodes.{nodes, Held}
 use Rattle.model.specs.declared.Entry.{Entry}
@@ -15,17 +14,16 @@ use Rattle.model.specs.declared.Direction.the-variants.{Up, Down}
 use Rattle.model.specs.Lists.{concat, keep}
 use Rattle.model.specs.Tree.{Tree}
 use Rattle.model.specs.declared.Request.{Request}
-use Rattle.model.specs.Look.{starts, ends, least, entered, openings}
+use Rattle.model.specs.Look.{ends, enters, entered, openings}
 use Rattle.tree.specs.Bridge.{rowFor, childOf, childTotals, Holds, treeAt}
 use Rattle.look_output.specs.declared.Scanned.{Scanned}
-use Rattle.model.specs.declared.Request.{Request}
 use Rattle.look_output.specs.Output.{Page, page, enlistAll}
 
 -- WHAT A SCAN ASKS
 
--- whether the child of an interior's row is opened, by the separator and the size sum that the row stores
-abbrev pub enters : Request → Row → Bool
-enters q r = starts (q .start) (r .key) && leb (least (q .sift)) (childTotals r .size)
+-- whether the child of an interior's row is opened, by the separator and the totals that the row stores
+abbrev pub rowEnters : Request → Row → Bool
+rowEnters q r = enters q (r .key) (childTotals r)
 
 -- whether the loop over children goes on behind a separator
 abbrev pub goesOnBy : Direction → Bound → ℕ → Bool

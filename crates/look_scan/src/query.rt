@@ -4,7 +4,7 @@ ghost use Prim.Native.Nat.{_<_};
 ghost use lib.Dec.{leb};
 ghost use Rattle.model.specs.Look.{starts, ends, due, least};
 ghost use Rattle.tree.specs.Bridge.{entryOf};
-ghost use Rattle.look_scan.specs.Walk.{enters, goesOn, PlaceIn};
+ghost use Rattle.look_scan.specs.Walk.{rowEnters, goesOn, PlaceIn};
 use model::Bound;
 use model::Direction;
 use model::Request;
@@ -28,7 +28,7 @@ pub fn is_due(q: Request, row: Row) -> bool
 
 // Whether the child of an interior's row is opened.
 pub fn is_entered(q: Request, row: Row) -> bool
-    ensures { λ r. ⌜ r ≡ enters q row ⌝ }
+    ensures { λ r. ⌜ r ≡ rowEnters q row ⌝ }
 {
     if !passes_start(q, row.key) {
         return false;

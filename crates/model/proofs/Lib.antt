@@ -6,6 +6,7 @@ pub mod Trees
 pub mod Settles
 pub mod Changes
 pub mod Batches
+pub mod Thinned
 pub mod Scans
 pub mod Frames
 pub mod Readable

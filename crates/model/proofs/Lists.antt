@@ -104,7 +104,12 @@ module _ {A : Type 0} {P : A → Type 0} where
   pub all-past : (xs : List A) (i : ℕ) → length xs ≤ i → All P (take i xs) → All P xs
   all-past xs i le h = subst (All P) (take-all i xs le) h
 
--- what holds of each element of some lists joined holds of each of one of them
+-- what holds of each element of some lists joined holds of each of each of them ..
+pub all-parts : {A B : Type 0} {P : B → Type 0} (f : A → List B) (xs : List A) → All P (concat (map f xs)) → All (λ x. All P (f x)) xs
+all-parts f [] h = none
+all-parts f (x ∷ xs) h = one (all-left (f x) (concat (map f xs)) h) (all-parts f xs (all-right (f x) (concat (map f xs)) h))
+
+-- .. so of each of the one at i
 pub parts-at : {A B C : Type 0} {P : C → Type 0} (f : B → List C) (g : A → B) (xs : List A) (i : ℕ) (z : A) → i < length xs
     → All P (concat (map f (map g xs))) → All P (f (g (getD xs i z)))
 parts-at f g [] i z lt h = absurd (not-suc-le-zero lt)
@@ -161,6 +166,10 @@ module _ {A : Type 0} where
       go : (t : Bool) → reverse (keep p xs) ++ cond t (x ∷ []) [] ≡ reverse (cond t (x ∷ keep p xs) (keep p xs))
       go true = sym (reverse-cons x (keep p xs))
       go false = append-nil (reverse (keep p xs))
+
+  pub keep-parts : {B : Type 0} (p : A → Bool) (f : B → List A) (xs : List B) → keep p (concat (map f xs)) ≡ concat (map (λ x. keep p (f x)) xs)
+  keep-parts p f [] = refl
+  keep-parts p f (x ∷ xs) = keep-append p (f x) (concat (map f xs)) ∙ ap (keep p (f x) ++_) (keep-parts p f xs)
 
   pub cons-nil : {x : A} {xs : List A} → _≡_ {A = List A} (x ∷ xs) [] → ⊥
   cons-nil e = let q : _≡_ {A = ℕ} 1 0 = ap (λ (l : List A). cond-empty l) e in omega arith

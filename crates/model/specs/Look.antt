@@ -65,6 +65,10 @@ turned Down xs = reverse xs
 abbrev pub figure : Totals → ℕ
 figure t = t .size
 
+-- which of a node's children are entered, in key order
+abbrev pub Choice : Type 0
+Choice = (h : ℕ) → List (Item h) → List (Item h)
+
 module _ (q : Request) where
   -- a live entry in range, of size at least s
   abbrev pub due : Entry → Bool
@@ -83,16 +87,27 @@ module _ (q : Request) where
   -- .. backwards it has no such test
   abbrev pub reached : Direction → (h : ℕ) → List (Item h) → List (Item h)
   reached Up h cs = untilEnd h cs
-  reached Down h cs = reverse cs
+  reached Down h cs = cs
 
   -- a child is skipped if its separator fails the start bound or its figure is below s
-  abbrev pub entered : (h : ℕ) → Item h → Bool
-  entered h c = starts (q .start) (greatestKey h c) && leb (least (q .sift)) (figure (total h c))
+  abbrev pub enters : ℕ → Totals → Bool
+  enters separator t = starts (q .start) separator && leb (least (q .sift)) (figure t)
 
-  -- for each node in the order of opening, the entries that it adds to the list
+  abbrev pub entered : (h : ℕ) → Item h → Bool
+  entered h c = enters (greatestKey h c) (total h c)
+
+  -- THE CHILDREN THAT ARE ENTERED, in key order
+  abbrev pub entering : Choice
+  entering h cs = keep (entered h) (reached (q .direction) h cs)
+
+  -- for each node in the order of opening, the entries that it adds to the list, by any choice of the children ..
+  abbrev pub openingsBy : Choice → (h : ℕ) → Tree h → List (List Entry)
+  openingsBy chosen zero n = keep due (turned (q .direction) (n .items)) ∷ []
+  openingsBy chosen (suc h) n = [] ∷ concat (map (openingsBy chosen h) (turned (q .direction) (chosen (suc h) (n .items))))
+
+  -- .. and by the rule
   abbrev pub openings : (h : ℕ) → Tree h → List (List Entry)
-  openings zero n = keep due (turned (q .direction) (n .items)) ∷ []
-  openings (suc h) n = [] ∷ concat (map (openings h) (keep (entered (suc h)) (reached (q .direction) (suc h) (n .items))))
+  openings h n = openingsBy entering h n
 
 -- with the output full, the count ends with the node that holds the next entry due
 abbrev pub countTo : ℕ → List (List Entry) → ℕ
