@@ -87,7 +87,8 @@ fn entry_for(row: Row, height: usize, child: usize) -> FrameEntry
     ensures { λ r. ⌜ r ≡ entryFor height row child ⌝ }
 {
     if height == 0 {
-        return leaf_entry(row.key, row.body, row.size as u32);
+        let e = tree_rows::entry_of(row);
+        return leaf_entry(e.key, e.place, e.size);
     }
     branch(row.key, child as u32, tree_rows::child_totals(row))
 }

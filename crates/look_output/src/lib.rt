@@ -57,7 +57,8 @@ fn spell_row(part: &mut [u8], row: Row)
     requires { ⌜ length (now part) ≡ 24 ⌝ }
     ensures { λ _. ⌜ now (part .exit) ≡ bytesOf (entryWords (entryOf row ∷ [])) ⌝ }
 {
+    let place = tree_rows::entry_place(row);
     words::put(part, 0, row.key);
-    words::put(part, 1, row.body);
+    words::put(part, 1, place);
     words::put(part, 2, row.size);
 }

@@ -2,10 +2,9 @@
 ghost use mathlib.Core.Path.{_≡_};
 ghost use Prim.Native.Nat.{_<_};
 ghost use lib.Dec.{leb};
-ghost use Rattle.model.specs.Look.{starts, ends, due, least};
+ghost use Rattle.model.specs.Look.{due, least};
 ghost use Rattle.tree.specs.Bridge.{entryOf};
 ghost use Rattle.look_scan.specs.Walk.{rowEnters, goesOn, PlaceIn};
-use model::Bound;
 use model::Direction;
 use model::Request;
 use slots_raw::Row;
@@ -14,13 +13,16 @@ use slots_raw::Row;
 pub fn is_due(q: Request, row: Row) -> bool
     ensures { λ r. ⌜ r ≡ due q (entryOf row) ⌝ }
 {
-    if row.body == 0 {
+    let place = tree_rows::entry_place(row);
+    if model::is_mark(place) {
         return false;
     }
-    if !passes_start(q, row.key) {
+    let start = q.start;
+    if !model::starts(start, row.key) {
         return false;
     }
-    if !passes_end(q, row.key) {
+    let end = q.end;
+    if !model::ends(end, row.key) {
         return false;
     }
     is_large(q, row.size)
@@ -30,11 +32,13 @@ pub fn is_due(q: Request, row: Row) -> bool
 pub fn is_entered(q: Request, row: Row) -> bool
     ensures { λ r. ⌜ r ≡ rowEnters q row ⌝ }
 {
-    if !passes_start(q, row.key) {
+    let start = q.start;
+    if !model::starts(start, row.key) {
         return false;
     }
     let below = tree_rows::child_totals(row);
-    is_large(q, below.size)
+    let figure = model::figure(below);
+    is_large(q, figure)
 }
 
 // Whether the loop over the children goes on behind the one with this separator. Backwards it always does.
@@ -42,8 +46,9 @@ pub fn goes_on(q: Request, key: u64) -> bool
     ensures { λ r. ⌜ r ≡ goesOn q key ⌝ }
 {
     let direction = q.direction;
+    let end = q.end;
     match direction {
-        Direction::Up => passes_end(q, key),
+        Direction::Up => model::ends(end, key),
         Direction::Down => true,
     }
 }
@@ -57,28 +62,6 @@ pub fn place_in(q: Request, n: usize, j: usize) -> usize
     match direction {
         Direction::Up => j,
         Direction::Down => n - 1 - j,
-    }
-}
-
-fn passes_start(q: Request, key: u64) -> bool
-    ensures { λ r. ⌜ r ≡ starts (q .start) key ⌝ }
-{
-    let start = q.start;
-    match start {
-        Bound::Unbounded => true,
-        Bound::Included(a) => a <= key,
-        Bound::Excluded(a) => a < key,
-    }
-}
-
-fn passes_end(q: Request, key: u64) -> bool
-    ensures { λ r. ⌜ r ≡ ends (q .end) key ⌝ }
-{
-    let end = q.end;
-    match end {
-        Bound::Unbounded => true,
-        Bound::Included(b) => key <= b,
-        Bound::Excluded(b) => key < b,
     }
 }
 

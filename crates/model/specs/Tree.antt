@@ -55,8 +55,11 @@ greatestKey zero e = e .key
 greatestKey (suc h) n = lastOf (map (greatestKey h) (n .items))
 
 -- place 0 marks a deletion
+abbrev pub isMark : ℕ → Bool
+isMark place = eqb place 0
+
 abbrev pub isLive : Entry → Bool
-isLive e = not (eqb (e .place) 0)
+isLive e = not (isMark (e .place))
 
 abbrev pub noTotals : Totals
 noTotals = record { live = 0; dead = 0; size = 0 }

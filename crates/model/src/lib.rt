@@ -2,8 +2,9 @@
 //
 // What they mean stands in specs/: a reader with document 01 in hand finds each of its rules there, one file to an idea.
 ghost use mathlib.Core.Path.{_≡_};
+ghost use Rattle.model.specs.Tree.{isMark, noTotals};
 ghost use Rattle.model.specs.Plain.{noCounts};
-ghost use Rattle.model.specs.Look.{least};
+ghost use Rattle.model.specs.Look as look;
 ghost use Rattle.model.specs.Refuse.{isRemove};
 
 // The settings of a pool: how many nodes it has, how many entries a node may hold, and below how many it is joined.
@@ -121,9 +122,56 @@ pub fn no_counts() -> Counts
     }
 }
 
+// Whether a place marks a deletion. An entry with such a place is dead, the others are live.
+pub fn is_mark(place: u64) -> bool
+    ensures { λ r. ⌜ r ≡ isMark place ⌝ }
+{
+    place == 0
+}
+
+// The totals of no entries.
+pub fn no_totals() -> Totals
+    ensures { λ r. ⌜ r ≡ noTotals ⌝ }
+{
+    Totals {
+        live: 0,
+        dead: 0,
+        size: 0,
+    }
+}
+
+// The figure by which a scan skips a child.
+pub fn figure(t: Totals) -> u64
+    ensures { λ r. ⌜ r ≡ look.figure t ⌝ }
+{
+    t.size
+}
+
+// Whether a start lets a key pass.
+pub fn starts(start: Bound, key: u64) -> bool
+    ensures { λ r. ⌜ r ≡ look.starts start key ⌝ }
+{
+    match start {
+        Bound::Unbounded => true,
+        Bound::Included(a) => a <= key,
+        Bound::Excluded(a) => a < key,
+    }
+}
+
+// Whether an end lets a key pass.
+pub fn ends(end: Bound, key: u64) -> bool
+    ensures { λ r. ⌜ r ≡ look.ends end key ⌝ }
+{
+    match end {
+        Bound::Unbounded => true,
+        Bound::Included(b) => key <= b,
+        Bound::Excluded(b) => key < b,
+    }
+}
+
 // The size from which on a sift lists an entry.
 pub fn least_size(s: Sift) -> u32
-    ensures { λ r. ⌜ r ≡ least s ⌝ }
+    ensures { λ r. ⌜ r ≡ look.least s ⌝ }
 {
     match s {
         Sift::All => 0,

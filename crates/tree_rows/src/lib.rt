@@ -1,16 +1,20 @@
 // What the words of a row mean, and what the rows of a node add up to. A leaf's row is an entry: its key, its place and its size. An
 // interior's row is a child: its greatest key, its slot beside its live and dead entries, and its size sum.
 //
-// The crates of the index ask here, so that none but this one takes a child's row apart or puts one together.
+// The crates of the index ask here, so that none but this one takes a child's row apart or puts one together, and those that read take no
+// leaf's row apart either.
 ghost use mathlib.Core.Path.{_≡_};
+ghost use Prim.Native.Nat.{_<_};
 ghost use Rattle.words.specs.Words.{words};
 ghost use Rattle.slots.specs.Nodes.{rowsAt};
 ghost use Rattle.model.specs.Answer.{Tells};
-ghost use Rattle.model.specs.Tree.{adds, plus, noTotals};
+ghost use Rattle.model.specs.Tree.{adds, plus};
 ghost use Rattle.tree.specs.Bridge.{entryOf, childOf, childRow, childTotals, rowTotals};
 ghost use Rattle.tree.specs.Sums.{sumRows, Addable, Packs, Weighs};
+use model::Entry;
 use model::Settings;
 use model::Totals;
+pub use model::no_totals;
 use slots_raw::Row;
 
 // The totals of the node of height `height` in slot `s`, from its rows alone (the Rust's `stats`).
@@ -40,11 +44,12 @@ pub fn row_totals(height: usize, row: Row) -> Totals
     child_totals(row)
 }
 
-// What a leaf's row adds: its entry, which is dead if its place is 0.
+// What a leaf's row adds: its entry, dead or live.
 pub fn entry_totals(row: Row) -> Totals
     ensures { λ r. ⌜ r ≡ adds (entryOf row) ⌝ }
 {
-    if row.body == 0 {
+    let place = entry_place(row);
+    if model::is_mark(place) {
         return Totals {
             live: 0,
             dead: 1,
@@ -56,6 +61,25 @@ pub fn entry_totals(row: Row) -> Totals
         dead: 0,
         size: row.size,
     }
+}
+
+// The entry of a leaf's row. A row has a whole word for the size.
+pub fn entry_of(row: Row) -> Entry
+    requires { ⌜ row .size < 4294967296 ⌝ }
+    ensures { λ r. ⌜ r ≡ entryOf row ⌝ }
+{
+    Entry {
+        key: row.key,
+        place: entry_place(row),
+        size: row.size as u32,
+    }
+}
+
+// The place in a leaf's row.
+pub fn entry_place(row: Row) -> u64
+    ensures { λ r. ⌜ r ≡ entryOf row .place ⌝ }
+{
+    row.body
 }
 
 // What an interior's row adds: what it stores of its child.
@@ -112,15 +136,4 @@ pub fn same_totals(a: Totals, b: Totals) -> bool
         return false;
     }
     a.size == b.size
-}
-
-// The totals of no rows.
-pub fn no_totals() -> Totals
-    ensures { λ r. ⌜ r ≡ noTotals ⌝ }
-{
-    Totals {
-        live: 0,
-        dead: 0,
-        size: 0,
-    }
 }

@@ -1,20 +1,20 @@
 -- `entry_for` meets its contract: its test is the definition's. Assumes nothing.
 use mathlib.Core.Path.{ap, _∙_}
-use native.Mathlib.Omega.{arith}
 use borrow.Author.Needs.{needs}
 use Rattle.model.specs.declared.Totals.{Totals}
-use Rattle.frame_text.specs.Contents.{ofBranch}
+use Rattle.frame_text.specs.Contents.{ofEntry, ofBranch}
 use Rattle.frame.proofs.Noded.{entry-low, entry-high}
 use Rattle.frame.proofs.node.entry_for.Statement.{statement}
 use Rattle.frame.proofs.node.entry_for.Tie as tie
 
-cast-leaf-entry : tie.Need-cast-leaf-entry
-cast-leaf-entry c = omega (arith, c .before .before .pre .1 (c .before .if1 .taken))
+entry-of-requires : tie.Need-entry-of-requires
+entry-of-requires c κs = c .before .pre .1 (c .if1 .taken)
 
 returns : tie.Need-returns
 returns c =
     let a = c .before .before .before .args in
-    c .leaf-entry .ensures ∙ entry-low (a .height) (a .child) (a .row) (c .before .before .if1 .taken)
+    c .leaf-entry .ensures ∙ ap ofEntry (c .before .entry-of .ensures)
+    ∙ entry-low (a .height) (a .child) (a .row) (c .before .before .if1 .taken)
 
 returns-2 : tie.Need-returns-2
 returns-2 c =
@@ -26,7 +26,7 @@ pub entry-for-spec : {M : Type 1} → statement M
 entry-for-spec =
     tie.close
     (tie.spec
-    cast-leaf-entry
+    entry-of-requires
     (λ c κs. search needs)
     returns
     (λ c. search needs)

@@ -9,7 +9,7 @@ use Rattle.look_scan.proofs.query.goes_on.Tie as tie
 returns : tie.Need-returns
 returns c =
     let a = c .before .before .before .args in
-    c .passes-end .ensures ∙ sym (ap (λ (d : Direction). goesOnBy d (a .q .end) (a .key)) (c .before .enum-told .given .1))
+    c .ends .ensures ∙ sym (ap (λ (d : Direction). goesOnBy d (a .q .end) (a .key)) (c .before .enum-told .given .1))
 
 pub goes-on-spec : {M : Type 1} → statement M
 goes-on-spec = tie.close (tie.spec (λ c. search needs) (λ c κs. search needs) (λ c. search needs) returns (λ c. search needs))
