@@ -1,7 +1,6 @@
--- The laws, each file over those before it: `Ascents` of keys, `Sums` of totals, `Rows` and `Walks` of the walk over a node's rows, `Heads` of what the words
--- of a slot say.
+-- The laws, each file over those before it: `Ascents` of keys, `Rows` and `Walks` of the walk over a node's rows, `Heads` of what the
+-- words of a slot say.
 pub mod Ascents
-pub mod Sums
 pub mod Rows
 pub mod Walks
 pub mod Heads

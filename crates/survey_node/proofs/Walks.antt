@@ -19,10 +19,10 @@ use Rattle.model.specs.Contracts.{flat}
 use Rattle.model.proofs.Trees.{slotsIn, separator-ends, zero-plus, plus-zero, plus-assoc}
 use Rattle.tree.specs.Bridge.{entryOf, childOf, treeAt}
 use Rattle.tree.specs.Sums.{Addable}
+use Rattle.tree.proofs.Bounds.{Small, Slight, small-none, small-more, small-addable, entry-slight, child-slight}
 use Rattle.survey_node.specs.declared.Part.{Part}
 use Rattle.survey_node.specs.Checked.{Last, last, after, Head, Tail, Right, Checked, EntryRight, RowRight, begun, grown}
 use Rattle.survey_node.proofs.Ascents.{after-append, after-ends}
-use Rattle.survey_node.proofs.Sums.{Small, Slight, small-none, small-more, small-addable, entry-slight, child-slight}
 use Rattle.survey_node.proofs.Rows.{itemAt, itemsAt, RightRow, RightRows, rows-none, rows-cons, rows-head, rows-tail, rows-right}
 
 -- WHAT A RIGHT ROW ADDS

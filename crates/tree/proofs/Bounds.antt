@@ -1,4 +1,4 @@
--- Totals that the walk adds up stay far below what their fields hold. Assumes nothing.
+-- Totals that are added up row by row stay far below what their fields hold, if each row's own do. Assumes nothing.
 use mathlib.Core.Path.{_≡_, ap}
 use mathlib.Core.Bool.{Bool, true, false, cond}
 use Prim.Native.Nat.{ℕ, suc, _+_, _*_, _≤_, _<_}
@@ -11,11 +11,9 @@ use Rattle.model.specs.Lists.{All}
 use Rattle.model.specs.Tree.{Tree, entries, total, isLive, adds, plus, noTotals}
 use Rattle.model.specs.Sound.{Fits}
 use Rattle.model.proofs.Trees.{total-list, sizes-few}
 use Rattle.tree.specs.Bridge.{childTotals}
 use Rattle.tree.specs.Sums.{Addable}
 use Rattle.tree.proofs.ReadOff.{total-count}
-
--- BOUNDS
 
 -- the totals of one row: of an entry, or of a child whose row counts them in 20 bits
 pub record Slight (t : Totals) : Type 0 where
@@ -33,10 +31,12 @@ pub small-none : Small noTotals 0
 small-none = record { live = omega arith; dead = omega arith; size = omega arith }
 
 pub small-more : (a b : Totals) (i : ℕ) → Small a i → Slight b → Small (plus a b) (i + 1)
-small-more a b i s t = record { live = omega (arith, s .live, t .live); dead = omega (arith, s .dead, t .dead); size = omega (arith, s .size, t .size) }
+small-more a b i s t =
+    record { live = omega (arith, s .live, t .live); dead = omega (arith, s .dead, t .dead); size = omega (arith, s .size, t .size) }
 
 pub small-addable : (a b : Totals) (i : ℕ) → i < 32 → Small a i → Slight b → Addable a b
-small-addable a b i lt s t = record { live = omega (arith, s .live, t .live); dead = omega (arith, s .dead, t .dead); size = omega (arith, s .size, t .size) }
+small-addable a b i lt s t =
+    record { live = omega (arith, s .live, t .live); dead = omega (arith, s .dead, t .dead); size = omega (arith, s .size, t .size) }
 
 pub entry-slight : (e : Entry) → e .size < 4294967296 → Slight (adds e)
 entry-slight e h = by (isLive e)
