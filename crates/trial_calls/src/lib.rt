@@ -1,0 +1,84 @@
+// The calls of the lines, by their kinds and arguments, done on the pool, with their answers: trial_lines has the table of both.
+mod batches; // kinds 3 to 6
+
+use index_promise::OpenAnswer;
+use index_promise::TotalsAnswer;
+use model::Settings;
+use trial::at;
+use trial::put_word;
+use trial_lines::form::formed;
+use trial_lines::line::list;
+use trial_lines::told::Told;
+use trial_lines::told::amiss;
+use trial_lines::told::checked;
+use trial_lines::told::refused;
+
+// How many bytes of the pool are lent: an opening says it, for all calls up to the next one.
+pub fn lent(kind: u64, args: &[u64], before: usize) -> usize {
+    if kind == 1 {
+        return at(args, 3) as usize;
+    }
+    before
+}
+
+// Lends these bytes of the pool to a call.
+pub fn replay(pool: &mut [u8], lent: usize, kind: u64, args: &[u64]) -> Told {
+    if lent > pool.len() {
+        return amiss();
+    }
+    if !formed(kind, args) {
+        return amiss();
+    }
+    call(&mut pool[..lent], kind, args)
+}
+
+fn call(pool: &mut [u8], kind: u64, args: &[u64]) -> Told {
+    match kind {
+        1 => open(pool, args),
+        2 => totals(pool),
+        3 => batches::set(pool, args),
+        4 => batches::set_each(pool, args),
+        5 => batches::remove(pool, args),
+        6 => batches::compare(pool, args),
+        7 => trial_looks::look(pool, kind, args, at(args, 0)),
+        8 => trial_looks::look(pool, kind, args, at(args, 8)),
+        9 => trial_looks::look(pool, kind, args, at(args, 1)),
+        10 => trial_frames::read(list(args, 0)),
+        _ => damage(pool, args),
+    }
+}
+
+fn open(pool: &mut [u8], args: &[u64]) -> Told {
+    fill(pool);
+    let st = Settings {
+        nodes: at(args, 0) as usize,
+        order: at(args, 1) as usize,
+        minimum: at(args, 2) as usize,
+    };
+    match index::open(pool, st) {
+        OpenAnswer::Done => checked(pool, 0),
+        OpenAnswer::Refused(n) => checked(pool, n),
+    }
+}
+
+// The pool as it is lent to an opening.
+fn fill(pool: &mut [u8]) {
+    for i in 0..pool.len() {
+        pool[i] = 0x5a;
+    }
+}
+
+fn totals(pool: &[u8]) -> Told {
+    match index::totals(pool) {
+        TotalsAnswer::Done(t) => Told {
+            n: 4,
+            of: [0, t.live as u64, t.dead as u64, t.size, 0, 0],
+        },
+        TotalsAnswer::Refused(n) => refused(n),
+    }
+}
+
+fn damage(pool: &mut [u8], args: &[u64]) -> Told {
+    put_word(pool, at(args, 0) as usize, at(args, 1));
+    checked(pool, 0)
+}

@@ -1,0 +1,27 @@
+-- `keeps_rank` is safe and ends: a row a turn, and a word is read from anywhere. Assumes nothing.
+use Prim.Native.Nat.{_-_}
+use borrow.Author.Needs.{needs}
+use Rattle.trial_rules.proofs.keeps_rank.Statement.{statement}
+use Rattle.trial_rules.proofs.keeps_rank.Tie as tie
+
+abbrev Inv-loop : tie.InvT-loop
+Inv-loop pool order s was v j₀ j = Unit {0}
+
+abbrev μ-loop : tie.MeasureT-loop
+μ-loop pool order s was v j₀ j = order - j
+
+pub keeps-rank-spec : {M : Type 1} → statement M
+keeps-rank-spec =
+    tie.close
+    (tie.spec
+    Inv-loop
+    μ-loop
+    (λ c κs. search needs)
+    (λ c. search needs)
+    (λ c. search needs)
+    (λ c κs. search needs)
+    (λ c. search needs)
+    (λ c. search needs)
+    (λ c. search needs)
+    (λ c. search needs)
+    (λ c. search needs))

@@ -1,0 +1,27 @@
+-- `key_allows` is safe and ends: a slot a turn, and a word is read from anywhere. Assumes nothing.
+use Prim.Native.Nat.{_-_}
+use borrow.Author.Needs.{needs}
+use Rattle.trial_rules.proofs.key_allows.Statement.{statement}
+use Rattle.trial_rules.proofs.key_allows.Tie as tie
+
+abbrev Inv-loop : tie.InvT-loop
+Inv-loop pool nodes order slot row was v s₀ s = Unit {0}
+
+abbrev μ-loop : tie.MeasureT-loop
+μ-loop pool nodes order slot row was v s₀ s = nodes - s
+
+pub key-allows-spec : {M : Type 1} → statement M
+key-allows-spec =
+    tie.close
+    (tie.spec
+    Inv-loop
+    μ-loop
+    (λ c κs. search needs)
+    (λ c. search needs)
+    (λ c. search needs)
+    (λ c κs. search needs)
+    (λ c. search needs)
+    (λ c. search needs)
+    (λ c. search needs)
+    (λ c. search needs)
+    (λ c. search needs))
