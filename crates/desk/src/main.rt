@@ -1,8 +1,8 @@
 // The desk program: an index of 16 nodes, order 4 and minimum 2, changed and shown by lines on standard input.
 //
 // `set` with key, place, size triples, `drop` with keys, `dump`. Each line is answered before the next is looked at. It only reads, calls
-// `desk_answers` and writes what that answers: what is written so for any text, however its reads cut it, is proved there
-// (`ServesAnyText`). What `read` and `write` themselves do is outside the proof.
+// `desk_answers` and writes what that answers: what is written so for any text, however its reads cut it, is proved in
+// crate desk_promise (`ServesAnyText`). What `read` and `write` themselves do is outside the proof.
 use libc::STDIN_FILENO;
 use libc::STDOUT_FILENO;
 

@@ -1,39 +1,24 @@
 // The desk's answers: a line that was kept, answered on the desk's pool, as text in bytes that are lent.
-ghost use mathlib.Core.Path.{_≡_};
 ghost use Prim.Native.Nat.{_≤_};
 ghost use mathlib.Core.List.{[]};
 ghost use lib.ListN.{length, take};
 ghost use Rattle.model.specs.declared.Operation.the-variants.{SetEach, Remove};
 ghost use Rattle.desk_orders.specs.Orders.{ordered};
 ghost use Rattle.desk_lines.specs.Parts.{held};
-ghost use Rattle.desk_answers.specs.Promise.{opened, Answers, Changes};
+ghost use Rattle.desk_promise.specs.Promise.{Answers, Changes};
 
-mod dump; // all frames
 mod part; // the next part of a line
 
+use desk_dump::dump;
 use desk_orders::Order;
 use desk_orders::Reading;
-use dump::dump;
-use index_promise::BatchAnswer;
+use desk_pool::change;
+pub use desk_pool::open;
 use model::Operation;
-use model::Settings;
-pub use part::Taken;
 pub use part::take_part;
 
 // The number of a line that is malformed or too long.
 const MALFORMED: u32 = 15;
-
-// Makes the desk's pool, of 16 nodes, order 4 and minimum 2, one empty leaf, whatever it held.
-pub fn open(pool: &mut [u8; 3360])
-    ensures { λ _. ⌜ now (pool .exit) ≡ opened ⌝ }
-{
-    let desk = Settings {
-        nodes: 16,
-        order: 4,
-        minimum: 2,
-    };
-    index::open(pool, desk);
-}
 
 // Answers the line of which `n` bytes are kept (more than 255: it was too long) with a text in the first bytes of `text`, and tells its
 // length.
@@ -56,8 +41,7 @@ pub fn answer(pool: &mut [u8; 3360], line: &[u8; 255], n: usize, text: &mut [u8;
 }
 
 // The batch that a `set` of `m` rows asks for.
-fn set_rows(pool: &mut [u8], read: Reading, m: usize, text: &mut [u8]) -> usize
-    requires { ⌜ 89 ≤ length (now text) ⌝ }
+fn set_rows(pool: &mut [u8; 3360], read: Reading, m: usize, text: &mut [u8; 4096]) -> usize
     requires { ⌜ (m ≤ length (read .keys)) × (m ≤ length (read .places)) × (m ≤ length (read .sizes)) ⌝ }
     ensures { λ r. ⌜ Changes
         (record { operation = SetEach; places = take m (read .places); sizes = take m (read .sizes); keys = take m (read .keys) })
@@ -77,8 +61,7 @@ fn set_rows(pool: &mut [u8], read: Reading, m: usize, text: &mut [u8]) -> usize
 }
 
 // The batch that a `drop` of `m` keys asks for.
-fn drop_keys(pool: &mut [u8], read: Reading, m: usize, text: &mut [u8]) -> usize
-    requires { ⌜ 89 ≤ length (now text) ⌝ }
+fn drop_keys(pool: &mut [u8; 3360], read: Reading, m: usize, text: &mut [u8; 4096]) -> usize
     requires { ⌜ m ≤ length (read .keys) ⌝ }
     ensures { λ r. ⌜ Changes (record { operation = Remove; places = []; sizes = []; keys = take m (read .keys) })
         (now (pool .entry)) (now (text .entry)) (record { count = r; pool = now (pool .exit); text = now (text .exit) }) ⌝ }
@@ -94,23 +77,4 @@ fn drop_keys(pool: &mut [u8], read: Reading, m: usize, text: &mut [u8]) -> usize
         Operation::Remove,
         text,
     )
-}
-
-// One batch.
-fn change(
-    pool: &mut [u8],
-    keys: &[u64],
-    places: &[u64],
-    sizes: &[u32],
-    op: Operation,
-    text: &mut [u8],
-) -> usize
-    requires { ⌜ 89 ≤ length (now text) ⌝ }
-    ensures { λ r. ⌜ Changes (record { operation = op; places = now (places .entry); sizes = now (sizes .entry); keys = now (keys .entry) })
-        (now (pool .entry)) (now (text .entry)) (record { count = r; pool = now (pool .exit); text = now (text .exit) }) ⌝ }
-{
-    match index::batch(pool, keys, places, sizes, op) {
-        BatchAnswer::Done(counts) => desk_text::say_done(text, counts),
-        BatchAnswer::Refused(n) => desk_text::say_refused(text, n),
-    }
 }

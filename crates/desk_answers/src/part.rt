@@ -1,13 +1,7 @@
 // A turn of the program: the next part of a line.
-ghost use Rattle.desk_answers.specs.Turns.{Turns};
+ghost use Rattle.desk_promise.specs.Turns.{Turns};
 use crate::answer;
-
-// How many bytes of the text were taken, how many are kept of the line, and how long the answer is: 0 where the line goes on.
-pub struct Taken {
-    pub bytes: usize,
-    pub kept: usize,
-    pub count: usize,
-}
+use desk_promise::Taken;
 
 // Keeps the part of a line that stands first in the rest of a text, behind the `n` bytes that are kept of it. Where the line ends there
 // it is answered on the pool, and nothing is kept.

@@ -24,14 +24,11 @@ use Rattle.tree.proofs.Pools.{sound-index, image-sound, image-index, image-sett
 use Rattle.look_output.specs.Output.{roomIn}
 use Rattle.index_promise.specs.declared.BatchAnswer.{BatchAnswer}
 use Rattle.index_promise.specs.declared.BatchAnswer.the-variants as Batch
-use Rattle.index_promise.specs.Promise.{Where, holds, fails, Left, _leaving_, leaves, Batches, batched, written, listed}
+use Rattle.index_promise.specs.Promise.{holds, fails, Left, _leaving_, leaves, Batches, batched, written, listed}
+use Rattle.index_promise.proofs.Unique.{by-sound}
 use Rattle.index.specs.Register.{AnswersFrom, sweptOf, Turn, Runs, rest, next, plainAfter, plainRun, CountedBy, Counted, Demand3, Swap}
 
 -- WHAT A PROMISE SAYS OF A SOUND POOL
-
-pub by-sound : {P A : Type 0} {a b r : A} → P → Where P a b r → r ≡ a
-by-sound p (holds q e) = e
-by-sound p (fails q e) = absurd (q p)
 
 pub answers-from : (es : List Entry) (l : List ℕ) → SoundPool l → entriesOf (indexOf l) ≡ es → AnswersFrom es l
 answers-from es l s e =

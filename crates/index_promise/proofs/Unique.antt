@@ -28,6 +28,11 @@ where-unique (holds p e) (fails q f) = absurd (q p)
 where-unique (fails p e) (holds q f) = absurd (p q)
 where-unique (fails p e) (fails q f) = e ∙ sym f
 
+-- where the condition is known to hold
+pub by-sound : {P A : Type 0} {a b r : A} → P → Where P a b r → r ≡ a
+by-sound p (holds q e) = e
+by-sound p (fails q e) = absurd (q p)
+
 -- what a call leaves is known by its parts
 parts : {A : Type 0} {a b : Answer A} {l m : List ℕ} → (a leaving l) ≡ (b leaving m) → (a ≡ b) × (l ≡ m)
 parts {A = A} e = (ap (λ (w : Left A). w .answer) e, ap (λ (w : Left A). w .bytes) e)

@@ -2,7 +2,7 @@
 use Rattle.desk_orders.specs.Orders.{ordered}
 use Rattle.desk_lines.specs.Parts.{held}
 use lib.ListN.{length, replicate}
-use Rattle.desk_answers.proofs.Cuts.{answer-inside}
+use Rattle.desk_promise.proofs.Cuts.{answer-inside}
 use lib.Seq.{length-take-le}
 use Prim.Native.Nat.{_≤_}
 use mathlib.Core.Path.{sym}

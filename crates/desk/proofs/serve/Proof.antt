@@ -1,5 +1,5 @@
 -- `serve` meets its contract: each turn takes some of what was read, so the turns come to an end. Assumes nothing.
-use Rattle.desk_answers.proofs.Cuts.{turn-inside, turn-takes}
+use Rattle.desk_promise.proofs.Cuts.{turn-inside, turn-takes}
 use lib.Seq.{length-take-le}
 use lib.ListN.{length, drop, length-drop}
 use Prim.Native.Nat.{_-_, _≤_, _<_}

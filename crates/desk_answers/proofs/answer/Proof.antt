@@ -1,7 +1,8 @@
 -- `answer` meets its contract: a line is read, and what it asks for is done. Assumes nothing.
-use Rattle.desk_answers.proofs.Tells.{told, too-long, not-too-long, rows, keys-alone, dumps, is-refused}
-use Rattle.desk_answers.specs.Replies.{refusing}
-use Rattle.desk_answers.specs.Promise.{Outcome, Answers}
+use Rattle.desk_pool.proofs.Tells.{told}
+use Rattle.desk_answers.proofs.Asked.{too-long, not-too-long, rows, keys-alone, dumps, is-refused}
+use Rattle.desk_promise.specs.Replies.{refusing}
+use Rattle.desk_promise.specs.Promise.{Outcome, Answers}
 use Rattle.desk_lines.specs.Parts.{held}
 use Rattle.desk_orders.specs.Orders.{wanted, ordered}
 use lib.Seq.{length-take-le}
@@ -31,7 +32,7 @@ set-rows-requires c κs =
     let r = c .before .before .before .before .before .read-order in
     let w = wanted (take (x .n) (x .line .now)) in
     let s = rows (r .result) w (r .ensures) _ (c .before .before .before .order .given .1) in
-    (search needs, (s .keys, s .places, s .sizes))
+    (s .keys, s .places, s .sizes)
 
 drop-keys-requires : tie.Need-drop-keys-requires
 drop-keys-requires c κs =
@@ -39,7 +40,7 @@ drop-keys-requires c κs =
     let r = c .before .before .before .before .before .read-order in
     let w = wanted (take (x .n) (x .line .now)) in
     let s = keys-alone (r .result) w (r .ensures) _ (c .before .before .before .order2 .given .1) in
-    (search needs, s .keys)
+    s .keys
 
 -- what a line of the right length asks for is what was read of it
 as-read : (c : tie.After-read-order) (a : Outcome) →
@@ -75,12 +76,12 @@ returns-3 c =
 
 returns-4 : tie.Need-returns-4
 returns-4 c =
-    let read = c .before .before .before .before .before .before in
+    let read = c .before .before .before .before .before in
     let x = read .before .before .before .before .args in
     let l = x .pool .now in
     let r = read .read-order in
     let a : Outcome = record { count = c .dump .result; pool = l; text = c .dump .last .1 .0 } in
-    as-read read a (dumps (r .result) (wanted (take (x .n) (x .line .now))) (r .ensures) (c .before .before .before .before .enum-told .given .1) l
+    as-read read a (dumps (r .result) (wanted (take (x .n) (x .line .now))) (r .ensures) (c .before .before .before .enum-told .given .1) l
     (x .text .now) a (c .dump .ensures))
 
 returns-5 : tie.Need-returns-5

@@ -6,7 +6,7 @@ use Rattle.desk_answers.proofs.drop_keys.Statement.{statement}
 use Rattle.desk_answers.proofs.drop_keys.Tie as tie
 
 slice-aggregate-change : tie.Need-slice-aggregate-change
-slice-aggregate-change c = sym (length-take-le _ _ (c .before .before .before .before .before .before .before .pre .1))
+slice-aggregate-change c = sym (length-take-le _ _ (c .before .before .before .before .before .pre))
 
 pub drop-keys-spec : {M : Type 1} → statement M
 drop-keys-spec =
@@ -19,6 +19,4 @@ drop-keys-spec =
     (λ c. search needs)
     (λ c. search needs)
     (λ c κs. search needs)
-    (λ c. search needs)
-    (λ c. search needs)
     (λ c. search needs))

@@ -6,13 +6,13 @@ use Rattle.desk_answers.proofs.set_rows.Statement.{statement}
 use Rattle.desk_answers.proofs.set_rows.Tie as tie
 
 slice-aggregate-change : tie.Need-slice-aggregate-change
-slice-aggregate-change c = sym (length-take-le _ _ (c .before .before .before .before .before .before .before .pre .1 .0))
+slice-aggregate-change c = sym (length-take-le _ _ (c .before .before .before .before .before .pre .0))
 
 slice-aggregate-change-2 : tie.Need-slice-aggregate-change-2
-slice-aggregate-change-2 c = sym (length-take-le _ _ (c .before .before .before .before .before .before .before .before .pre .1 .1))
+slice-aggregate-change-2 c = sym (length-take-le _ _ (c .before .before .before .before .before .before .pre .1))
 
 slice-aggregate-change-3 : tie.Need-slice-aggregate-change-3
-slice-aggregate-change-3 c = sym (length-take-le _ _ (c .before .before .before .before .before .before .before .before .before .pre .1 .2))
+slice-aggregate-change-3 c = sym (length-take-le _ _ (c .before .before .before .before .before .before .before .pre .2))
 
 pub set-rows-spec : {M : Type 1} → statement M
 set-rows-spec =
@@ -25,6 +25,4 @@ set-rows-spec =
     (λ c. search needs)
     slice-aggregate-change-3
     (λ c κs. search needs)
-    (λ c. search needs)
-    (λ c. search needs)
     (λ c. search needs))

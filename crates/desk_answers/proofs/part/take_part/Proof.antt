@@ -1,5 +1,5 @@
 -- `take_part` meets its contract: the first line of the rest is kept, and answered where it ends. Assumes nothing.
-use Rattle.desk_answers.proofs.Cuts.{line-goes-on, line-ends}
+use Rattle.desk_promise.proofs.Cuts.{line-goes-on, line-ends}
 use borrow.Author.Needs.{needs}
 use Rattle.desk_answers.proofs.part.take_part.Statement.{statement}
 use Rattle.desk_answers.proofs.part.take_part.Tie as tie

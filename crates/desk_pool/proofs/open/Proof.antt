@@ -1,12 +1,12 @@
 -- `open` meets its contract: the settings of the desk are in limits, and the length is exact. Assumes nothing.
-use Rattle.index.proofs.Register.{by-sound}
+use Rattle.index_promise.proofs.Unique.{by-sound}
 use Rattle.model.specs.Sound.{InLimits}
-use Rattle.desk_answers.specs.Program.{desk}
+use Rattle.desk_promise.specs.Program.{desk}
 use mathlib.Core.Path.{ap}
 use native.Mathlib.Omega.{arith}
 use borrow.Author.Needs.{needs}
-use Rattle.desk_answers.proofs.open.Statement.{statement}
-use Rattle.desk_answers.proofs.open.Tie as tie
+use Rattle.desk_pool.proofs.open.Statement.{statement}
+use Rattle.desk_pool.proofs.open.Tie as tie
 
 returns : tie.Need-returns
 returns c =

@@ -5,7 +5,7 @@ use Rattle.model.specs.declared.Settings.{Settings}
 use Rattle.model.specs.Tree.{Index, newIndex}
 use Rattle.desk_lines.specs.Lines.{linesOf}
 use Rattle.desk_orders.specs.Orders.{wanted}
-use Rattle.desk_answers.specs.Replies.{Reply, reply}
+use Rattle.desk_promise.specs.Replies.{Reply, reply}
 
 -- 16 nodes, order 4, minimum 2
 abbrev pub desk : Settings

@@ -20,15 +20,14 @@ use Rattle.model.proofs.Lists.{all-of, all-map}
 use Rattle.tree.specs.Pool.{SoundPool, settingsIn, indexOf, imageOf}
 use Rattle.tree.proofs.Pools.{image-sound, image-index, image-settings}
 use Rattle.index_promise.specs.Promise.{Where}
-use Rattle.index_promise.proofs.Unique.{where-unique}
-use Rattle.index.proofs.Register.{by-sound}
+use Rattle.index_promise.proofs.Unique.{where-unique, by-sound}
 use Rattle.desk_lines.specs.Lines.{linesOf}
 use Rattle.desk_lines.specs.Parts.{kept}
 use Rattle.desk_orders.specs.Orders.{Wanted, set, drops, dump, malformed, wanted}
 use Rattle.desk_orders.proofs.Bounds.{WantedFits, wanted-fits}
-use Rattle.desk_answers.specs.Replies.{Reply, refusing, batchReply, reply, setCall, dropCall}
-use Rattle.desk_answers.specs.Program.{desk, answered, answers}
-use Rattle.desk_answers.specs.Promise.{Outcome, outcome, Answers, Session, rest, next, WritesTheProgram, OneAnswer}
+use Rattle.desk_promise.specs.Replies.{Reply, refusing, batchReply, reply, setCall, dropCall}
+use Rattle.desk_promise.specs.Program.{desk, answered, answers}
+use Rattle.desk_promise.specs.Promise.{Outcome, outcome, Answers, Session, rest, next, WritesTheProgram, OneAnswer}
 
 -- ONE ANSWER
 

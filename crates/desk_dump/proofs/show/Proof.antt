@@ -1,12 +1,12 @@
--- `dump` meets its contract. The loop's invariant: the first i frames stand in the text (`Shown`), until there is none left. Assumes nothing.
-use Rattle.desk_answers.proofs.Shows.{fits, feed-inside, rest-put, of-the-rest, Shown, none-shown, one-more, sixteen, ended, refused-at-once}
+-- `show` meets its contract. The loop's invariant: the first i frames stand in the text (`Shown`), until there is none left. Assumes nothing.
+use Rattle.desk_dump.proofs.Shows.{fits, feed-inside, rest-put, of-the-rest, Shown, none-shown, one-more, sixteen, ended, refused-at-once}
 use Prim.Native.Nat.{_+_, _-_, _≤_}
 use lib.ListN.{drop}
 use Rattle.frame_text.specs.declared.WriteAnswer.the-variants as Write
 use Rattle.index_promise.specs.Promise.{Frames}
 use borrow.Author.Needs.{needs}
-use Rattle.desk_answers.proofs.dump.dump.Statement.{statement}
-use Rattle.desk_answers.proofs.dump.dump.Tie as tie
+use Rattle.desk_dump.proofs.show.Statement.{statement}
+use Rattle.desk_dump.proofs.show.Tie as tie
 
 abbrev Inv-loop : tie.InvT-loop
 Inv-loop pool text₀ at₀ i₀ text at i = Shown pool text₀ text at i
@@ -84,8 +84,8 @@ returns-2 c =
 returns-3 : tie.Need-returns-3 Inv-loop μ-loop
 returns-3 c = sixteen _ _ (c .before .loop .inv) (c .loop-test .left)
 
-pub dump-spec : {M : Type 1} → statement M
-dump-spec =
+pub show-spec : {M : Type 1} → statement M
+show-spec =
     tie.close
     (tie.spec
     Inv-loop

@@ -1,4 +1,4 @@
--- What a batch answers is told as text, and what a line asks for is what was read of it. Assumes nothing.
+-- What a line asks for is what was read of it. Assumes nothing.
 use Prim.Native.Nat.{ℕ, _-_, _≤_, _<_}
 use native.Mathlib.Omega.{arith}
 use mathlib.Core.Path.{_≡_, refl, sym, ap, _∙_, subst}
@@ -6,81 +6,16 @@ use mathlib.Core.List.{List, [], map}
 use lib.ListN.{length, take, replicate, length-append, length-take, length-map}
 use lib.Seq.{take-at}
 use borrow.Author.Tests.{lt-leb, le-leb}
-use Rattle.model.specs.declared.Counts.{Counts}
 use Rattle.model.specs.declared.Entry.{Entry}
 use Rattle.model.specs.declared.Operation.the-variants as Op
-use Rattle.model.specs.Change.{Batched}
-use Rattle.model.specs.Answer.{Answer, refused, done}
-use Rattle.model.specs.Refuse.{Call, answer}
-use Rattle.model.proofs.Answers.{refused-done}
-use Rattle.tree.specs.Pool.{settingsIn, indexOf, imageOf}
-use Rattle.index_promise.specs.declared.BatchAnswer.{BatchAnswer}
-use Rattle.index_promise.specs.declared.BatchAnswer.the-variants as Batch
-use Rattle.index_promise.specs.Promise.{holds, fails, Left, _leaving_, leaves, Batches}
-use Rattle.desk_text.specs.Texts.{over, doneText, refusedText}
-use Rattle.desk_text.proofs.Overs.{over-first}
 use Rattle.desk_orders.specs.declared.Reading.{Reading}
 use Rattle.desk_orders.specs.declared.Order.{Order}
 use Rattle.desk_orders.specs.declared.Order.the-variants as Read
 use Rattle.desk_lines.specs.Parts.{longest, held}
 use Rattle.desk_orders.specs.Orders.{Wanted, set, drops, dump, malformed, ordered, wanted, placed, readingOf}
 use Rattle.desk_orders.proofs.Asks.{short}
-use Rattle.desk_answers.specs.Replies.{Reply, refusing, batchReply, malformed-line}
-use Rattle.desk_answers.specs.Promise.{Outcome, outcome, Changes, Replies, Answers}
-
--- a text that was put into the first bytes
-pub told : (y : Reply (List ℕ)) (k : ℕ) (l t t′ : List ℕ) → k ≡ length (y .text) → l ≡ y .after → t′ ≡ over 0 (y .text) t
-    → record { count = k; pool = l; text = t′ } ≡ outcome t y
-told y k l t t′ a b c = rw (a, b, c ∙ over-first (y .text) t) refl
-
--- A BATCH
-
-module _ (c : Call) (l m t t′ : List ℕ) (k : ℕ) where
-  abbrev left : Answer Batched → Left Counts
-  left = leaves (λ b. b .counts) (λ b. imageOf (settingsIn l) (b .index)) l
-
-  abbrev replied : Answer Batched → Reply (List ℕ)
-  replied = batchReply (imageOf (settingsIn l)) l
-
-  module _ (n : Counts) (a : k ≡ length (doneText n)) (b : t′ ≡ over 0 (doneText n) t) where
-    by-done : (x : Answer Batched) → (done n leaving m) ≡ left x → record { count = k; pool = m; text = t′ } ≡ outcome t (replied x)
-    by-done (refused i) e = absurd (refused-done i n (sym (ap (λ (w : Left Counts). w .answer) e)))
-    by-done (done y) e =
-        let counts : n ≡ y .counts = same (ap (λ (w : Left Counts). w .answer) e) in
-        told (replied (done y)) k m t t′ (a ∙ ap (λ x. length (doneText x)) counts) (ap (λ (w : Left Counts). w .bytes) e)
-        (b ∙ ap (λ x. over 0 (doneText x) t) counts)
-      where
-        same : done n ≡ done (y .counts) → n ≡ y .counts
-        same h = cc
-
-    pub batch-done : (r : BatchAnswer) → r ≡ Batch.Done n → Batches c l r m → Changes c l t (record { count = k; pool = m; text = t′ })
-    batch-done r e p = by (subst (λ q. Batches c l q m) e p)
-      where
-        by : Batches c l (Batch.Done n) m → Changes c l t (record { count = k; pool = m; text = t′ })
-        by (fails u f) = absurd (refused-done 2 n (sym (ap (λ (w : Left Counts). w .answer) f)))
-        by (holds s f) = holds s (by-done (answer (settingsIn l) c (indexOf l)) f)
-
-  module _ (n : ℕ) (a : k ≡ length (refusedText n)) (b : t′ ≡ over 0 (refusedText n) t) where
-    refusing-by : (i : ℕ) → _≡_ {A = Left Counts} (refused n leaving m) (refused i leaving l)
-        → record { count = k; pool = m; text = t′ } ≡ outcome t (refusing l i)
-    refusing-by i e =
-        let number : n ≡ i = same (ap (λ (w : Left Counts). w .answer) e) in
-        told (refusing l i) k m t t′ (a ∙ ap (λ x. length (refusedText x)) number) (ap (λ (w : Left Counts). w .bytes) e)
-        (b ∙ ap (λ x. over 0 (refusedText x) t) number)
-      where
-        same : _≡_ {A = Answer Counts} (refused n) (refused i) → n ≡ i
-        same h = cc
-
-    by-refused : (x : Answer Batched) → (refused n leaving m) ≡ left x → record { count = k; pool = m; text = t′ } ≡ outcome t (replied x)
-    by-refused (refused i) e = refusing-by i e
-    by-refused (done y) e = absurd (refused-done n (y .counts) (ap (λ (w : Left Counts). w .answer) e))
-
-    pub batch-refused : (r : BatchAnswer) → r ≡ Batch.Refused n → Batches c l r m → Changes c l t (record { count = k; pool = m; text = t′ })
-    batch-refused r e p = by (subst (λ q. Batches c l q m) e p)
-      where
-        by : Batches c l (Batch.Refused n) m → Changes c l t (record { count = k; pool = m; text = t′ })
-        by (fails u f) = fails u (refusing-by 2 f)
-        by (holds s f) = holds s (by-refused (answer (settingsIn l) c (indexOf l)) f)
+use Rattle.desk_promise.specs.Replies.{refusing, malformed-line}
+use Rattle.desk_promise.specs.Promise.{Outcome, outcome, Changes, Replies, Answers}
 
 -- A LINE
 

@@ -12,8 +12,8 @@ use Rattle.index_promise.specs.Promise.{Where}
 use Rattle.desk_lines.specs.Lines.{linesOf}
 use Rattle.desk_lines.specs.Parts.{Kept, kept}
 use Rattle.desk_orders.specs.Orders.{Wanted, set, drops, dump, malformed, ordered}
-use Rattle.desk_answers.specs.Replies.{Reply, refusing, batchReply, reply, malformed-line}
-use Rattle.desk_answers.specs.Program.{desk, program}
+use Rattle.desk_promise.specs.Replies.{Reply, refusing, batchReply, reply, malformed-line}
+use Rattle.desk_promise.specs.Program.{desk, program}
 
 -- the desk's pool, opened
 abbrev pub opened : List ℕ

@@ -1,5 +1,5 @@
 -- `Replies`: what is answered to a line. `Program`: what the program writes for any text. `Promise`: what `open` and `answer` owe. `Turns`: what
--- `turn` owes, and that the program writes what it is to write, however its text is cut.
+-- `take_part` owes, and that the program writes what it is to write, however its text is cut.
 pub mod Replies
 pub mod Program
 pub mod Promise

@@ -23,9 +23,9 @@ use Rattle.index_promise.specs.Promise.{holds, fails, Left, _leaving_, leaves, 
 use Rattle.desk_text.specs.Texts.{over, refusedText}
 use Rattle.desk_text.proofs.Overs.{Put, behind, put-length, over-first}
 use Rattle.desk_orders.specs.Orders.{dump}
-use Rattle.desk_answers.specs.Replies.{frameText, dumpText}
-use Rattle.desk_answers.specs.Promise.{Replies}
-use Rattle.desk_answers.proofs.Rooms.{frames-16, frames-fit}
+use Rattle.desk_promise.specs.Replies.{frameText, dumpText}
+use Rattle.desk_promise.specs.Promise.{Replies}
+use Rattle.desk_dump.proofs.Rooms.{frames-16, frames-fit}
 
 -- THE I-TH FRAME is drawn ..
 record Drawn (l : List ℕ) (i n : ℕ) (line line′ : List ℕ) : Type 0 where

@@ -20,7 +20,7 @@ use Rattle.frame.proofs.Noded.{frame-contents}
 use Rattle.frame.proofs.Walks.{frames-long}
 use Rattle.tree.specs.Pool.{SoundPool, settingsIn, indexOf}
 use Rattle.tree.proofs.Pools.{sound-index}
-use Rattle.desk_answers.specs.Replies.{frameText, dumpText}
+use Rattle.desk_promise.specs.Replies.{frameText, dumpText}
 
 -- A FRAME of at most so many entries
 

@@ -8,8 +8,8 @@ use Rattle.model.specs.Lists.{concat}
 use Rattle.desk_lines.specs.Lines.{firstLine}
 use Rattle.desk_lines.specs.Parts.{longest, Place, held, keeping}
 use Rattle.desk_orders.specs.Orders.{ordered}
-use Rattle.desk_answers.specs.Program.{program}
-use Rattle.desk_answers.specs.Promise.{opened, Outcome, Answers}
+use Rattle.desk_promise.specs.Program.{program}
+use Rattle.desk_promise.specs.Promise.{opened, Outcome, Answers}
 
 -- how much of the text was taken, what is kept of the next line, and what the turn leaves
 pub record Turned : Type 0 where

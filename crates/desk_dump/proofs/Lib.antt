@@ -1,0 +1,3 @@
+-- `Rooms`: the frames of the pool have room. `Shows`: a dump, one frame a turn.
+pub mod Rooms
+pub mod Shows

@@ -1,0 +1,2 @@
+-- `Tells`: a batch, told as text.
+pub mod Tells

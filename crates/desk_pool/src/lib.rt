@@ -1,0 +1,36 @@
+// The desk's pool: opened, and changed by a batch whose answer is told as text.
+ghost use mathlib.Core.Path.{_≡_};
+ghost use Rattle.desk_promise.specs.Promise.{opened, Changes};
+use index_promise::BatchAnswer;
+use model::Operation;
+use model::Settings;
+
+// Makes the desk's pool, of 16 nodes, order 4 and minimum 2, one empty leaf, whatever it held.
+pub fn open(pool: &mut [u8; 3360])
+    ensures { λ _. ⌜ now (pool .exit) ≡ opened ⌝ }
+{
+    let desk = Settings {
+        nodes: 16,
+        order: 4,
+        minimum: 2,
+    };
+    index::open(pool, desk);
+}
+
+// One batch on it, and its answer as text in the first bytes of `text`; tells the length of that.
+pub fn change(
+    pool: &mut [u8; 3360],
+    keys: &[u64],
+    places: &[u64],
+    sizes: &[u32],
+    op: Operation,
+    text: &mut [u8; 4096],
+) -> usize
+    ensures { λ r. ⌜ Changes (record { operation = op; places = now (places .entry); sizes = now (sizes .entry); keys = now (keys .entry) })
+        (now (pool .entry)) (now (text .entry)) (record { count = r; pool = now (pool .exit); text = now (text .exit) }) ⌝ }
+{
+    match index::batch(pool, keys, places, sizes, op) {
+        BatchAnswer::Done(counts) => desk_text::say_done(text, counts),
+        BatchAnswer::Refused(n) => desk_text::say_refused(text, n),
+    }
+}
