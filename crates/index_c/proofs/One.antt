@@ -15,7 +15,8 @@ use Rattle.index_promise.specs.Promise.{Where, opening, totalled, batched, got,
 use Rattle.frame_text.specs.Answers.{lengthTold}
 use Rattle.index_promise.specs.declared.OpenAnswer.{OpenAnswer}
 use Rattle.index_promise.proofs.Unique.{where-unique, one-opening, one-totals, one-batch, one-get, one-scan, one-frame}
-use Rattle.index_c_told.specs.Told.{codeOf, totalNumbers, countNumbers, listedNumbers, scannedNumbers, Fields, frameFields}
+use Rattle.index_c_told.specs.Told.{codeOf, totalNumbers, countNumbers, listedNumbers, scannedNumbers}
+use Rattle.index_c_fields.specs.Fields.{Fields, frameFields}
 use Rattle.index_c.specs.Calls.{Kept, OpenCall, TotalsCall, BatchCall, GetCall, ScanCall, FrameCall, WriteCall, ReadCall}
 use Rattle.index_c_told.proofs.Reported.{one-report}
 

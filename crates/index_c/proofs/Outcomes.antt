@@ -14,7 +14,8 @@ use Rattle.frame_text.specs.declared.ReadAnswer.the-variants as Read
 use Rattle.frame_text.specs.declared.Reading.{Reading}
 use Rattle.frame_text.specs.Answers.{frameTold, contentsIn, Reads}
 use Rattle.index_promise.specs.Promise.{Where, holds, fails}
-use Rattle.index_c_told.specs.Told.{codeOf, filled, Reports, Fields, fieldsOf, frameFields, contentsTold}
+use Rattle.index_c_told.specs.Told.{codeOf, filled, Reports}
+use Rattle.index_c_fields.specs.Fields.{Fields, fieldsOf, frameFields, contentsTold}
 
 -- THE LENGTH OF A POOL
 

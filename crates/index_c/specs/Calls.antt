@@ -12,7 +12,8 @@ use Rattle.frame_text.specs.declared.WriteAnswer.{WriteAnswer}
 use Rattle.frame_text.specs.Answers.{lengthTold, Writes}
 use Rattle.index_promise.specs.declared.OpenAnswer.{OpenAnswer}
 use Rattle.index_promise.specs.Promise.{Opens, opening, Totalling, totalled, Batches, batched, Gets, got, Scans, scanned, Frames}
-use Rattle.index_c_told.specs.Told.{codeOf, Reports, totalNumbers, countNumbers, listedNumbers, scannedNumbers, Fields, frameFields}
+use Rattle.index_c_told.specs.Told.{codeOf, Reports, totalNumbers, countNumbers, listedNumbers, scannedNumbers}
+use Rattle.index_c_fields.specs.Fields.{Fields, frameFields}
 
 -- a promise of an answer is kept by one that is reported, whose values are put by f into a small buffer that was b
 abbrev pub Kept : {R A B : Type 0} → (R → Type 0) → (R → Answer A) → (A → B) → B → ℕ → B → Type 0

@@ -2,10 +2,10 @@
 use mathlib.Core.Path.{ap}
 use borrow.Author.Needs.{needs}
 use Rattle.frame_text.specs.declared.ReadAnswer.{ReadAnswer}
-use Rattle.index_c_told.specs.Told.{fieldsOf, contentsTold}
+use Rattle.index_c_fields.specs.Fields.{fieldsOf, contentsTold}
 use Rattle.index_c_told.proofs.Reported.{reports-done, reports-refused}
-use Rattle.index_c_told.proofs.tell_reading.Statement.{statement}
-use Rattle.index_c_told.proofs.tell_reading.Tie as tie
+use Rattle.index_c_fields.proofs.tell_reading.Statement.{statement}
+use Rattle.index_c_fields.proofs.tell_reading.Tie as tie
 
 returns : tie.Need-returns
 returns c =

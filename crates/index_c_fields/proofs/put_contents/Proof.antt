@@ -8,10 +8,10 @@ use borrow.Author.Needs.{needs}
 use Rattle.frame_text.specs.declared.Kind.{Kind}
 use Rattle.frame_text.specs.declared.FrameEntry.{FrameEntry}
 use Rattle.frame_text.specs.Contents.{noEntry}
-use Rattle.index_c_told.specs.Told.{wideOf, narrowOf}
+use Rattle.index_c_fields.specs.Fields.{wideOf, narrowOf}
 use Rattle.index_c_given.proofs.Fills.{Filling, fill-start, fill-turn, fill-end}
-use Rattle.index_c_told.proofs.put_contents.Statement.{statement}
-use Rattle.index_c_told.proofs.put_contents.Tie as tie
+use Rattle.index_c_fields.proofs.put_contents.Statement.{statement}
+use Rattle.index_c_fields.proofs.put_contents.Tie as tie
 
 -- a field of the entry at place i
 abbrev at : (FrameEntry → ℕ) → List FrameEntry → ℕ → ℕ
