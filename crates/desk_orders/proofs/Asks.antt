@@ -17,8 +17,9 @@ use Rattle.desk_orders.specs.declared.Order.the-variants as Read
 use Rattle.desk_orders.specs.declared.Reading.{Reading}
 use Rattle.desk_lines.specs.Parts.{longest}
 use Rattle.desk_orders.specs.Orders.{malformed, dump, begins, isEmpty, set-word, drop-word, dump-word, setting, dropping}
-use Rattle.desk_orders.specs.Orders.{asked, wanted, rowsIn, fields, placed, reading, readingOf}
-use Rattle.desk_orders.specs.Numbers.{fieldsFrom, entriesOf, Lends, Past, rowsRead}
+use Rattle.desk_orders.specs.Orders.{asked, wanted, placed, reading, readingOf}
+use Rattle.desk_rows.specs.Rows.{rowsIn, fields}
+use Rattle.desk_rows.specs.Numbers.{fieldsFrom, entriesOf, Lends, Past, rowsRead}
 
 -- a line is as long as the word that it begins with
 pub begins-long : (w l : List ℕ) → begins w l ≡ true → length w ≤ length l

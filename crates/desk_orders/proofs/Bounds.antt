@@ -16,9 +16,10 @@ use Rattle.model.specs.Sound.{Fits}
 use Rattle.model.specs.ReadFrame.{valueOf, isDigit}
 use Rattle.model.proofs.Lists.{all-of, all-map, by-test}
 use Rattle.desk_lines.specs.Parts.{longest, whole, tooLong}
-use Rattle.desk_orders.specs.Orders.{Wanted, set, drops, dump, malformed, fields, digitsFrom, number, row, andRows, rowsIn, begins}
+use Rattle.desk_orders.specs.Orders.{Wanted, set, drops, dump, malformed, begins}
+use Rattle.desk_rows.specs.Rows.{fields, digitsFrom, number, row, andRows, rowsIn}
 use Rattle.desk_orders.specs.Orders.{isEmpty, set-word, drop-word, dump-word, setting, dropping, asked, ordered, wanted}
-use Rattle.desk_orders.proofs.Spelt.{value-more}
+use Rattle.desk_rows.proofs.Spelt.{value-more}
 
 no-number : {A : Type 0} {x : A} → none ≡ some x → ⊥
 no-number h = let z : _≡_ {A = ℕ} 0 1 = cc in omega arith

@@ -1,7 +1,4 @@
--- `Spelt`: the digits of a number. `Fields`: a line field by field. `Begins`: the first word. `Asks`: what it asks for. `Bounds`: that its numbers are what
--- their types can hold.
-pub mod Spelt
-pub mod Fields
+-- `Begins`: the first word. `Asks`: what a line asks for. `Bounds`: that its numbers are what their types can hold.
 pub mod Begins
 pub mod Asks
 pub mod Bounds

@@ -1,3 +1,2 @@
--- `Orders` says what a line asks for, `Numbers` what the inner functions of reading one promise.
+-- `Orders` says what a line asks for.
 pub mod Orders
-pub mod Numbers

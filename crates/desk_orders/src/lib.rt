@@ -1,6 +1,4 @@
 // What a line asks for.
-mod digits; // hexadecimal numbers
-mod rows; // keys alone, or triples
 mod read; // what a line asks for
 
 pub use read::read_order;

@@ -4,12 +4,13 @@ ghost use Prim.Native.Nat.{_≤_};
 ghost use mathlib.Core.Bool.{true, false};
 ghost use mathlib.Core.List.{[]};
 ghost use lib.ListN.{length};
-ghost use Rattle.desk_orders.specs.Orders.{wanted, reading, readingOf, begins, rowsIn, setting, dropping};
-ghost use Rattle.desk_orders.specs.Numbers.{fieldsFrom};
+ghost use Rattle.desk_orders.specs.Orders.{wanted, reading, readingOf, begins, setting, dropping};
+ghost use Rattle.desk_rows.specs.Rows.{rowsIn};
+ghost use Rattle.desk_rows.specs.Numbers.{fieldsFrom};
 use crate::Order;
 use crate::Reading;
-use crate::rows::read_rows;
 use desk_lines::LONGEST;
+use desk_rows::read_rows;
 
 // Reads a line of any length. One of more than 255 bytes is malformed.
 pub fn read_order(line: &[u8]) -> Reading

@@ -1,9 +1,9 @@
 -- `next_number` meets its contract: where the line goes on, a space ends the field, and the next one begins behind it. Assumes nothing.
 use native.Mathlib.Omega.{arith}
-use Rattle.desk_orders.proofs.Fields.{next-none, next-is}
+use Rattle.desk_rows.proofs.Fields.{next-none, next-is}
 use borrow.Author.Needs.{needs}
-use Rattle.desk_orders.proofs.rows.next_number.Statement.{statement}
-use Rattle.desk_orders.proofs.rows.next_number.Tie as tie
+use Rattle.desk_rows.proofs.rows.next_number.Statement.{statement}
+use Rattle.desk_rows.proofs.rows.next_number.Tie as tie
 
 returns : tie.Need-returns
 returns c = let a = c .before .before .args in next-none (a .line .now) (a .end) (a .most) (c .if1 .taken)

@@ -4,10 +4,10 @@ use native.Mathlib.Omega.{arith}
 use Prim.Native.Nat.{_-_, _+_}
 use lib.ListN.{length}
 use mathlib.Core.Path.{refl, sym, _∙_, subst}
-use Rattle.desk_orders.specs.Numbers.{RowAt}
-use Rattle.desk_orders.proofs.Fields.{SoFar, none-yet, rows-bad, rows-more, rows-done}
-use Rattle.desk_orders.proofs.rows.read_rows.Statement.{statement}
-use Rattle.desk_orders.proofs.rows.read_rows.Tie as tie
+use Rattle.desk_rows.specs.Numbers.{RowAt}
+use Rattle.desk_rows.proofs.Fields.{SoFar, none-yet, rows-bad, rows-more, rows-done}
+use Rattle.desk_rows.proofs.rows.read_rows.Statement.{statement}
+use Rattle.desk_rows.proofs.rows.read_rows.Tie as tie
 
 abbrev Inv-loop : tie.InvT-loop
 Inv-loop line from triples keys₀ places₀ sizes₀ at₀ n₀ keys places sizes at n = SoFar triples line from keys₀ places₀ sizes₀ keys places sizes at n

@@ -3,8 +3,8 @@ ghost use mathlib.Core.Path.{_≡_};
 ghost use mathlib.Core.Bool.{true, false};
 ghost use Prim.Native.Nat.{_≤_};
 ghost use lib.ListN.{length};
-ghost use Rattle.desk_orders.specs.Orders.{rowsIn};
-ghost use Rattle.desk_orders.specs.Numbers.{fieldsFrom, NextAt, RowAt, Lends, Past, rowsRead};
+ghost use Rattle.desk_rows.specs.Rows.{rowsIn};
+ghost use Rattle.desk_rows.specs.Numbers.{fieldsFrom, NextAt, RowAt, Lends, Past, rowsRead};
 use crate::digits::Number;
 use crate::digits::read_number;
 

@@ -7,12 +7,12 @@ use mathlib.Core.Option.{Option, none, some}
 use lib.ListN.{length, take, drop}
 use lib.Dec.{leb}
 use Rattle.model.specs.declared.Entry.{Entry}
-use Rattle.desk_orders.specs.declared.digits.Number.{Number}
-use Rattle.desk_orders.specs.declared.digits.Number.the-variants as N
-use Rattle.desk_orders.specs.declared.rows.Row.{Row}
-use Rattle.desk_orders.specs.declared.rows.Row.the-variants as R
+use Rattle.desk_rows.specs.declared.digits.Number.{Number}
+use Rattle.desk_rows.specs.declared.digits.Number.the-variants as N
+use Rattle.desk_rows.specs.declared.rows.Row.{Row}
+use Rattle.desk_rows.specs.declared.rows.Row.the-variants as R
 use Rattle.desk_lines.specs.Lines.{upTo, endOf}
-use Rattle.desk_orders.specs.Orders.{number, fields, rowsIn, andRows}
+use Rattle.desk_rows.specs.Rows.{number, fields, rowsIn, andRows}
 
 -- the field that begins at `from`
 abbrev pub fieldAt : List ℕ → ℕ → List ℕ

@@ -12,10 +12,10 @@ use native.Mathlib.Numerals.{add-one}
 use Rattle.model.specs.declared.Entry.{Entry}
 use borrow.Author.Tests.{lt-leb, le-leb, ltb-true, ltb-false}
 use Rattle.desk_lines.specs.Lines.{onto, upTo, endOf}
-use Rattle.desk_orders.specs.Orders.{fields, number, rowsIn, andRows, row}
-use Rattle.desk_orders.specs.Numbers.{fieldAt, fieldsFrom, firstNumber, entriesOf, rowsRead, Lends, Past, NumberAt, NextAt}
-use Rattle.desk_orders.specs.declared.digits.Number.{Number}
-use Rattle.desk_orders.specs.declared.digits.Number.the-variants as N
+use Rattle.desk_rows.specs.Rows.{fields, number, rowsIn, andRows, row}
+use Rattle.desk_rows.specs.Numbers.{fieldAt, fieldsFrom, firstNumber, entriesOf, rowsRead, Lends, Past, NumberAt, NextAt}
+use Rattle.desk_rows.specs.declared.digits.Number.{Number}
+use Rattle.desk_rows.specs.declared.digits.Number.the-variants as N
 
 -- the fields behind the first
 abbrev behind : List ℕ → List (List ℕ)

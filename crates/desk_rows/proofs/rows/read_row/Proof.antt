@@ -1,9 +1,9 @@
 -- `read_row` meets its contract: a triple or a key, as is asked for. Assumes nothing.
-use Rattle.desk_orders.specs.Numbers.{RowAt}
+use Rattle.desk_rows.specs.Numbers.{RowAt}
 use mathlib.Core.Path.{sym, subst}
 use borrow.Author.Needs.{needs}
-use Rattle.desk_orders.proofs.rows.read_row.Statement.{statement}
-use Rattle.desk_orders.proofs.rows.read_row.Tie as tie
+use Rattle.desk_rows.proofs.rows.read_row.Statement.{statement}
+use Rattle.desk_rows.proofs.rows.read_row.Tie as tie
 
 returns : tie.Need-returns
 returns c =

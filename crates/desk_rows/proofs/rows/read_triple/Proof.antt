@@ -1,12 +1,12 @@
 -- `read_triple` meets its contract: a row is three numbers, each read behind the one before it. Assumes nothing.
-use Rattle.desk_orders.proofs.Fields.{triple-first, triple-second, triple-third, triple-good}
-use Rattle.desk_orders.specs.declared.digits.Number.the-variants as N
-use Rattle.desk_orders.specs.Numbers.{NumberAt, NextAt}
+use Rattle.desk_rows.proofs.Fields.{triple-first, triple-second, triple-third, triple-good}
+use Rattle.desk_rows.specs.declared.digits.Number.the-variants as N
+use Rattle.desk_rows.specs.Numbers.{NumberAt, NextAt}
 use mathlib.Core.Path.{subst}
 use native.Mathlib.Omega.{arith}
 use borrow.Author.Needs.{needs}
-use Rattle.desk_orders.proofs.rows.read_triple.Statement.{statement}
-use Rattle.desk_orders.proofs.rows.read_triple.Tie as tie
+use Rattle.desk_rows.proofs.rows.read_triple.Statement.{statement}
+use Rattle.desk_rows.proofs.rows.read_triple.Tie as tie
 
 -- each number is the one that was read there
 keyed : (c : tie.After-key) →

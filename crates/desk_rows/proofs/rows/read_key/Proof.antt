@@ -1,10 +1,10 @@
 -- `read_key` meets its contract: a row is one number. Assumes nothing.
-use Rattle.desk_orders.proofs.Fields.{key-bad, key-good}
-use Rattle.desk_orders.specs.Numbers.{NumberAt}
+use Rattle.desk_rows.proofs.Fields.{key-bad, key-good}
+use Rattle.desk_rows.specs.Numbers.{NumberAt}
 use mathlib.Core.Path.{subst}
 use borrow.Author.Needs.{needs}
-use Rattle.desk_orders.proofs.rows.read_key.Statement.{statement}
-use Rattle.desk_orders.proofs.rows.read_key.Tie as tie
+use Rattle.desk_rows.proofs.rows.read_key.Statement.{statement}
+use Rattle.desk_rows.proofs.rows.read_key.Tie as tie
 
 returns : tie.Need-returns
 returns c = key-bad _ _ (c .before .before .before .before .pre) (subst (NumberAt _ _ 16) (c .enum-told .given .1) (c .before .before .read-number .ensures))

@@ -1,7 +1,7 @@
 // Numbers of a line: lower-case hexadecimal.
 ghost use Prim.Native.Nat.{_≤_};
 ghost use lib.ListN.{length};
-ghost use Rattle.desk_orders.specs.Numbers.{NumberAt};
+ghost use Rattle.desk_rows.specs.Numbers.{NumberAt};
 use desk_lines::find;
 
 // A number, and the place behind it; or none.

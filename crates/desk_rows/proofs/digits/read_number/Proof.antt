@@ -3,9 +3,9 @@ use borrow.Author.Needs.{needs}
 use Prim.Native.Nat.{_-_, _≤_}
 use mathlib.Core.Path.{sym, subst}
 use Rattle.desk_lines.proofs.Finds.{end-from, end-within}
-use Rattle.desk_orders.proofs.Spelt.{Spelling, spelling, spelt-more, spelt-bad, spelt-done, spelt-small, number-empty, number-long}
-use Rattle.desk_orders.proofs.digits.read_number.Statement.{statement}
-use Rattle.desk_orders.proofs.digits.read_number.Tie as tie
+use Rattle.desk_rows.proofs.Spelt.{Spelling, spelling, spelt-more, spelt-bad, spelt-done, spelt-small, number-empty, number-long}
+use Rattle.desk_rows.proofs.digits.read_number.Statement.{statement}
+use Rattle.desk_rows.proofs.digits.read_number.Tie as tie
 
 abbrev Inv-loop : tie.InvT-loop
 Inv-loop line from most end i₀ value₀ i value = Spelling line from end most i value

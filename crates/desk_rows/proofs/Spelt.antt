@@ -13,8 +13,8 @@ use borrow.Author.Tests.{lt-ltb, le-ltb}
 use Rattle.model.specs.ReadFrame.{valueOf, isDigit}
 use Rattle.model.proofs.Lists.{by-test}
 use Rattle.desk_lines.specs.Lines.{endOf}
-use Rattle.desk_orders.specs.Orders.{digitsFrom, number}
-use Rattle.desk_orders.specs.Numbers.{fieldAt}
+use Rattle.desk_rows.specs.Rows.{digitsFrom, number}
+use Rattle.desk_rows.specs.Numbers.{fieldAt}
 use Rattle.desk_lines.proofs.Finds.{up-to-take}
 
 -- the bytes from i to e
