@@ -1,5 +1,5 @@
--- From a newly opened pool, after any sequence of batches, the calls answer from the plain list; and two neighbouring batches that share no key may
--- change places. Assumes nothing.
+-- From any pool that answers from a list, after any sequence of batches, the calls answer from the plain list, and so from a newly opened pool; and two
+-- neighbouring batches that share no key may change places. Assumes nothing.
 use mathlib.Core.Path.{_≡_, refl, sym, ap, _∙_, subst}
 use mathlib.Core.Bool.{false, cond}
 use mathlib.Core.List.{List, []}
@@ -22,11 +22,12 @@ use Rattle.model.proofs.Calls.{new-sound}
 use Rattle.tree.specs.Pool.{SoundPool, settingsIn, indexOf, imageOf}
 use Rattle.tree.proofs.Pools.{sound-index, image-sound, image-index, image-settings}
 use Rattle.look_output.specs.Output.{roomIn}
+use Rattle.index_promise.specs.declared.OpenAnswer.the-variants as Open
 use Rattle.index_promise.specs.declared.BatchAnswer.{BatchAnswer}
 use Rattle.index_promise.specs.declared.BatchAnswer.the-variants as Batch
-use Rattle.index_promise.specs.Promise.{holds, fails, Left, _leaving_, leaves, Batches, batched, written, listed}
+use Rattle.index_promise.specs.Promise.{holds, fails, Left, _leaving_, leaves, Opens, Batches, batched, written, listed}
 use Rattle.index_promise.proofs.Unique.{by-sound}
-use Rattle.index.specs.Register.{AnswersFrom, sweptOf, Turn, Runs, rest, next, plainAfter, plainRun, CountedBy, Counted, Demand3, Swap}
+use Rattle.index.specs.Register.{AnswersFrom, sweptOf, Turn, Runs, rest, next, plainAfter, plainRun, CountedBy, Counted, Onwards, Demand3, Swap}
 
 -- WHAT A PROMISE SAYS OF A SOUND POOL
 
@@ -134,15 +135,21 @@ run es (one h hs) g (next {t = t} {l = l} {m = m} b bs) =
     let on = run (plainAfter (t .call) (batched (t .answer)) es) hs (one .0) bs in
     (on .0, (one .1, on .1))
 
-pub demand-3 : Demand3
-demand-3 st l new now ts lent (fails u e) runs = absurd (refused-done 1 tt (sym (ap (λ w. w .answer) e)))
-demand-3 st l new now ts lent (holds (lim, exact) e) runs =
+pub onwards : Onwards
+onwards es l now ts lent a runs =
+    let k = run es lent (record { sound = a .sound; list = a .holds }) runs in (answers-from (plainRun ts es) now (k .0 .sound) (k .0 .list), k .1)
+
+-- an opened pool has no entries
+opened : (st : Settings) (l new : List ℕ) → Opens st l Open.Done new → AnswersFrom [] new
+opened st l new (fails u e) = absurd (refused-done 1 tt (sym (ap (λ w. w .answer) e)))
+opened st l new (holds (lim, exact) e) =
     let x = newIndex (st .nodes) in
     let s : Sound st x = new-sound st lim in
     let is : new ≡ imageOf st x = ap (λ w. w .bytes) e in
-    let start : Kept [] new = record { sound = subst SoundPool (sym is) (image-sound st x s); list = ap entriesOf (ap indexOf is ∙ image-index st x s) } in
-    let k = run [] lent start runs in
-    (answers-from (plainRun ts []) now (k .0 .sound) (k .0 .list), k .1)
+    answers-from [] new (subst SoundPool (sym is) (image-sound st x s)) (ap entriesOf (ap indexOf is ∙ image-index st x s))
+
+pub demand-3 : Demand3
+demand-3 st l new now ts lent o runs = onwards [] new now ts lent (opened st l new o) runs
 
 -- TWO NEIGHBOURS
 

@@ -72,7 +72,13 @@ abbrev pub Counted : List Turn → List Entry → Type 0
 Counted [] es = Unit {0}
 Counted (t ∷ ts) es = CountedBy (t .call) (batched (t .answer)) es × Counted ts (plainAfter (t .call) (batched (t .answer)) es)
 
--- from a newly opened pool, after any sequence of batches, accepted or refused
+-- from any pool that answers from es, after any sequence of batches, accepted or refused, the pool answers from the plain list
+abbrev pub Onwards : Type 0
+Onwards =
+    (es : List Entry) (l now : List ℕ) (ts : List Turn) → All (λ t. Lent (t .call)) ts → AnswersFrom es l → Runs ts l now
+    → AnswersFrom (plainRun ts es) now × Counted ts es
+
+-- and so from a newly opened pool, which has no entries
 abbrev pub Demand3 : Type 0
 Demand3 =
     (st : Settings) (l new now : List ℕ) (ts : List Turn) → All (λ t. Lent (t .call)) ts → Opens st l Open.Done new → Runs ts new now
