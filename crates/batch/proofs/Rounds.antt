@@ -5,8 +5,9 @@ use mathlib.Core.List.{List, [], _∷_}
 use Prim.Native.Nat.{ℕ, _+_, _≤_, _<_}
 use native.Mathlib.Omega.{arith}
 use lib.Dec.{ltb, eqb}
-use lib.ListN.{length, take, drop, length-map, length-drop}
+use lib.ListN.{length, drop, length-map, length-drop}
 use borrow.Author.Tests.{eqb-true, not-false}
+use Rattle.slots_raw.specs.Slots.{headIn}
 use Rattle.slots.specs.Nodes.{Held, nodes}
 use Rattle.slots.specs.Nodes as S
 use Rattle.model.specs.declared.Counts.{Counts}
@@ -44,7 +45,7 @@ whole st W₀ h₀ ts = changeRoot st (length ts) (indexAt (nodes st W₀) h₀)
 
 pub record Running (st : Settings) (W₀ : List ℕ) (h₀ : ℕ) (b : M.Call) (W : List ℕ) (h : ℕ) (run : Run) : Type 0 where
   pub held : Held st W
-  pub header : take 4 W ≡ take 4 W₀
+  pub header : headIn W ≡ headIn W₀
   pub holds : HoldsIndex (nodes st W) (indexAt (nodes st W) h)
   pub spared : Spared (nodes st W) (run .spare)
   pub long : length (M.tasksOf b) ≡ length (b .keys)

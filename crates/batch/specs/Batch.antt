@@ -2,7 +2,7 @@
 use Prim.Native.Nat.{ℕ}
 use mathlib.Core.Path.{_≡_}
 use mathlib.Core.List.{List}
-use lib.ListN.{take}
+use Rattle.slots_raw.specs.Slots.{headIn}
 use Rattle.slots.specs.Nodes.{Held, nodes}
 use Rattle.model.specs.declared.Settings.{Settings}
 use Rattle.model.specs.Change.{Batched, batch}
@@ -27,7 +27,7 @@ pub record Accepted (st : Settings) (W : List ℕ) (root : Root) (c : Call) : Ty
 -- the pool holds the model's index, and the answer is of it
 pub record Batches (st : Settings) (W W′ : List ℕ) (b : Batched) (r : Ran) : Type 0 where
   pub held : Held st W′
-  pub header : take 4 W′ ≡ take 4 W
+  pub header : headIn W′ ≡ headIn W
   pub holds : HoldsIndex (nodes st W′) (b .index)
   pub counts : r .counts ≡ b .counts
   pub height : r .root .height ≡ b .index .height

@@ -6,10 +6,10 @@ use Prim.Native.Nat.{ℕ, suc, _+_, _≤_, _<_}
 use native.Mathlib.Omega.{arith}
 use native.Mathlib.Decide.{decLt}
 use lib.Dec.{ltb, leb}
-use lib.ListN.{length, getD, take, drop, length-map, length-drop, length-append, length-reverseAux}
+use lib.ListN.{length, getD, drop, length-map, length-drop, length-append, length-reverseAux}
 use borrow.Author.Tests.{lt-ltb, ltb-true, leb-true}
 use Rattle.slots_raw.specs.declared.Row.{Row}
-use Rattle.slots_raw.specs.Slots.{blank}
+use Rattle.slots_raw.specs.Slots.{blank, headIn}
 use Rattle.slots.specs.Nodes.{Held, At, nodes, rowsAt}
 use Rattle.slots.specs.Nodes as S
 use Rattle.model.specs.declared.Settings.{Settings}
@@ -50,7 +50,7 @@ cross {A} {B} P {a′ = a′} {b = b} {b′ = b′} {d = d} ea eb ed p = subst (
 -- THE LOOP'S INVARIANT, of the code's values: W₀ and run₀ are those of the start
 pub record Roaming (st : Settings) (W₀ W : List ℕ) (h : ℕ) (node : Subtree) (b : Call) (run₀ : Run) (i : ℕ) (changed : Bool) (run : Run) : Type 0 where
   pub held : Held st W
-  pub header : take 4 W ≡ take 4 W₀
+  pub header : headIn W ≡ headIn W₀
   pub batch : Batch b run
   pub spared : Spared (nodes st W) (run .spare)
   pub before : List (Tree h)

@@ -2,7 +2,8 @@
 use Prim.Native.Nat.{ℕ, suc, _+_, _<_}
 use mathlib.Core.Path.{_≡_}
 use mathlib.Core.List.{List}
-use lib.ListN.{length, take, drop}
+use lib.ListN.{length, drop}
+use Rattle.slots_raw.specs.Slots.{headIn}
 use Rattle.slots.specs.Nodes.{Held, nodes}
 use Rattle.slots.specs.Nodes as S
 use Rattle.model.specs.declared.Settings.{Settings}
@@ -61,7 +62,7 @@ pub record Answers (h : ℕ) (ns ms : List S.Node) (t : Tree h) (o : Outcome (Tr
 
 pub record Came (st : Settings) (W W′ : List ℕ) (h : ℕ) (node : Subtree) (b : Call) (run : Run) (r : Reply) : Type 0 where
   pub held : Held st W′
-  pub header : take 4 W′ ≡ take 4 W
+  pub header : headIn W′ ≡ headIn W
   pub answers :
       let t = treeAt (nodes st W) h (node .slot) in
       Answers h (nodes st W) (nodes st W′) t (change st h (node .ceiling) t (drop (run .next) (tasksOf b)) (runOf (nodes st W) (run .counts)))

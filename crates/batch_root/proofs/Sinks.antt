@@ -4,9 +4,9 @@ use mathlib.Core.Logic.{_≢_}
 use mathlib.Core.List.{List}
 use Prim.Native.Nat.{ℕ, suc, _<_}
 use native.Mathlib.Omega.{arith}
-use lib.ListN.{length, take, getD}
+use lib.ListN.{length, getD}
 use Rattle.slots_raw.specs.declared.Row.{Row}
-use Rattle.slots_raw.specs.Slots.{blank}
+use Rattle.slots_raw.specs.Slots.{blank, headIn}
 use Rattle.slots.specs.Nodes.{Now, Give, nodes, nth, rowsAt, unused, putRows, putKind, put2, without, joinNodes}
 use Rattle.slots.specs.Nodes as S
 use Rattle.slots.proofs.Nodes.{length-nodes, fits-node, then, become}
@@ -86,7 +86,7 @@ module _ {st : Settings} {W₀ : List ℕ} {h : ℕ} {spare : Spare} (pre : Lone
 
 pub record Sinking (st : Settings) (W₀ W : List ℕ) (h₀ h : ℕ) (spare : Spare) : Type 0 where
   pub keeps : Keeps st W (indexAt (nodes st W) h)
-  pub header : take 4 W ≡ take 4 W₀
+  pub header : headIn W ≡ headIn W₀
   pub spared : Spared (nodes st W) spare
   pub same : collapsed (indexAt (nodes st W) h) ≡ collapsed (indexAt (nodes st W₀) h₀)
 

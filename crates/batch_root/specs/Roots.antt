@@ -3,7 +3,8 @@ use Prim.Native.Nat.{ℕ, suc, _≤_, _<_}
 use mathlib.Core.Path.{_≡_}
 use mathlib.Core.Logic.{_≢_}
 use mathlib.Core.List.{List, [], _∷_}
-use lib.ListN.{length, take, set}
+use lib.ListN.{length, set}
+use Rattle.slots_raw.specs.Slots.{headIn}
 use Rattle.slots.specs.Nodes.{Held, nodes, nth, rowsAt, put2, withRows}
 use Rattle.slots.specs.Nodes as S
 use Rattle.model.specs.declared.Settings.{Settings}
@@ -38,7 +39,7 @@ pub record Keeps (st : Settings) (W : List ℕ) (x : Index) : Type 0 where
 -- it was W, and now holds x
 pub record Becomes (st : Settings) (W W′ : List ℕ) (x : Index) : Type 0 where
   pub held : Held st W′
-  pub header : take 4 W′ ≡ take 4 W
+  pub header : headIn W′ ≡ headIn W
   pub holds : HoldsIndex (nodes st W′) x
 
 -- A ROOT THAT IS SPLIT

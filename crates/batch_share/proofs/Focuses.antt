@@ -50,7 +50,7 @@ module _ {st : Settings} {W : List ℕ} {h s i : ℕ} {b : List (Tree h)} {c : T
   focus-long = omega (arith, family-long (t .family), length-reverseAux b (c ∷ a), t .at)
 
   pub focus-few : i + 1 ≤ 64
-  focus-few = omega (arith, focus-long, fits-node st W s (t .family .held), t .family .held .shape .limits .narrow)
+  focus-few = omega (arith, focus-long, fits-node st W s (t .family .held), t .family .held .shape .most)
 
   pub focus-sits : Sits st W h s i c
   focus-sits = record { held = t .family .held; parent = parent-in (t .family); within = omega (arith, focus-long); own = own-focus }

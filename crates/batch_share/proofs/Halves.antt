@@ -138,7 +138,7 @@ module _ {st : Settings} {W : List ℕ} {h s i : ℕ} {spare : Spare} {b : List 
           held = w .held;
           slot = parent-in (t .family);
           within = omega (arith, focus-long t, ap length parent-rows);
-          room = omega (arith, poise .few, ap length parent-rows);
+          room = omega (arith, poise .few, ap length parent-rows, w .held .shape .roomy);
         }
 
     module _ (row : R.Row) (er : row ≡ rowOver h x (rowsAt st W₁ x)) (W₂ : List ℕ)

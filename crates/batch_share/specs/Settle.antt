@@ -4,7 +4,7 @@ use Prim.Native.Nat.{ℕ, suc, _+_, _*_, _≤_, _<_}
 use mathlib.Core.Path.{_≡_}
 use mathlib.Core.List.{List, [], _∷_, _++_, map, reverseAux}
 use lib.ListN.{length, take, drop, getD}
-use Rattle.slots_raw.specs.Slots.{blank}
+use Rattle.slots_raw.specs.Slots.{blank, headIn}
 use Rattle.slots.specs.Nodes.{Held, nodes, nth, rowsAt}
 use Rattle.slots.specs.Nodes as S
 use Rattle.model.specs.declared.Settings.{Settings}
@@ -80,7 +80,7 @@ pub record Settled (h s : ℕ) (ns ms : List S.Node) (kids : List (Tree h)) (p :
 
 pub record Ended (st : Settings) (W W′ : List ℕ) (h s : ℕ) (v : ChangeResult) (r : Standing) (kids before : List (Tree h)) (new : Tree h) (after : List (Tree h)) : Type 0 where
   pub held : Held st W′
-  pub header : take 4 W′ ≡ take 4 W
+  pub header : headIn W′ ≡ headIn W
   pub settled : Settled h s (nodes st W) (nodes st W′) kids (settle st v before new after (unusedOf (nodes st W)))
   -- the walk goes on from this child
   pub at : r .at ≡ length (settle st v before new after (unusedOf (nodes st W)) .before)

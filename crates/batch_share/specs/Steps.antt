@@ -5,6 +5,7 @@ use mathlib.Core.Logic.{_≢_}
 use mathlib.Core.Bool.{Bool, false, not}
 use mathlib.Core.List.{List, [], _∷_, _++_, reverseAux}
 use lib.ListN.{length, take, drop}
+use Rattle.slots_raw.specs.Slots.{headIn}
 use Rattle.slots.specs.Nodes.{Held, nodes, nth, rowsAt, put2, withRows, lower}
 use Rattle.slots.specs.Nodes as S
 use Rattle.model.specs.declared.Settings.{Settings}
@@ -69,7 +70,7 @@ Neighbours st W h s i =
 -- the pool holds the place p
 pub record Came (st : Settings) (W W′ : List ℕ) (h s : ℕ) (kids : List (Tree h)) (p : Place (Tree h)) : Type 0 where
   pub held : Held st W′
-  pub header : take 4 W′ ≡ take 4 W
+  pub header : headIn W′ ≡ headIn W
   pub settled : Settled h s (nodes st W) (nodes st W′) kids p
 
 -- .. and `spare` is what is unused

@@ -8,7 +8,7 @@ use Rattle.model.specs.Change.{Batched}
 use Rattle.model.specs.Answer.{Answer, refused, done}
 use Rattle.model.specs.Refuse.{Call, answer}
 use Rattle.model.proofs.Answers.{refused-done}
-use Rattle.tree.specs.Pool.{settingsIn, indexOf, imageOf}
+use Rattle.tree.specs.Pool.{givenIn, settingsIn, indexOf, imageOf}
 use Rattle.index_promise.specs.declared.BatchAnswer.{BatchAnswer}
 use Rattle.index_promise.specs.declared.BatchAnswer.the-variants as Batch
 use Rattle.index_promise.specs.Promise.{holds, fails, Left, _leaving_, leaves, Batches}
@@ -26,10 +26,10 @@ told y k l t t′ a b c = rw (a, b, c ∙ over-first (y .text) t) refl
 
 module _ (c : Call) (l m t t′ : List ℕ) (k : ℕ) where
   abbrev left : Answer Batched → Left Counts
-  left = leaves (λ b. b .counts) (λ b. imageOf (settingsIn l) (b .index)) l
+  left = leaves (λ b. b .counts) (λ b. imageOf (givenIn l) (b .index)) l
 
   abbrev replied : Answer Batched → Reply (List ℕ)
-  replied = batchReply (imageOf (settingsIn l)) l
+  replied = batchReply (imageOf (givenIn l)) l
 
   module _ (n : Counts) (a : k ≡ length (doneText n)) (b : t′ ≡ over 0 (doneText n) t) where
     by-done : (x : Answer Batched) → (done n leaving m) ≡ left x → record { count = k; pool = m; text = t′ } ≡ outcome t (replied x)

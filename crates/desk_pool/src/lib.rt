@@ -3,13 +3,13 @@ ghost use mathlib.Core.Path.{_≡_};
 ghost use Rattle.desk_promise.specs.Promise.{opened, Changes};
 use index_promise::BatchAnswer;
 use model::Operation;
-use model::Settings;
+use model::PoolSettings;
 
 // Makes the desk's pool, of 16 nodes, order 4 and minimum 2, one empty leaf, whatever it held.
 pub fn open(pool: &mut [u8; 3360])
     ensures { λ _. ⌜ now (pool .exit) ≡ opened ⌝ }
 {
-    let desk = Settings {
+    let desk = PoolSettings {
         nodes: 16,
         order: 4,
         minimum: 2,

@@ -12,13 +12,13 @@ use Rattle.model.specs.Tree.{Index, newIndex}
 use Rattle.model.specs.Change.{Batched, batch}
 use Rattle.model.specs.Answer.{Answer, refused, done, unless}
 use Rattle.model.specs.Refuse.{Call, answer, refusal, tasksOf}
-use Rattle.model.specs.Sound.{InLimits, Fits, Sound}
+use Rattle.model.specs.Sound.{handed, InLimits, Fits, Sound}
 use Rattle.model.specs.Demands.{Lent}
 use Rattle.model.proofs.Demands as M
 use Rattle.model.proofs.Calls.{new-sound}
 use Rattle.model.proofs.Lists.{all-of, all-map}
-use Rattle.tree.specs.Pool.{SoundPool, settingsIn, indexOf, imageOf}
-use Rattle.tree.proofs.Pools.{image-sound, image-index, image-settings}
+use Rattle.tree.specs.Pool.{SoundPool, givenIn, settingsIn, indexOf, imageOf}
+use Rattle.tree.proofs.Pools.{image-sound, image-index, image-given}
 use Rattle.index_promise.specs.Promise.{Where}
 use Rattle.index_promise.proofs.Unique.{where-unique, by-sound}
 use Rattle.desk_lines.specs.Lines.{linesOf}
@@ -66,15 +66,15 @@ lent-set f =
 lent-drop : {ks : List ℕ} → All (λ k. k < 2 ^ 64) ks → Lent (dropCall ks)
 lent-drop f = record { operation = tt; places = none; sizes = none; keys = f }
 
-module _ (x : Index) (s : Sound desk x) where
-  batch-sound : (c : Call) → Lent c → Sound desk (batchReply (λ y. y) x (answer desk c x) .after)
-  batch-sound c lent = by (refusal desk c x) refl
+module _ (x : Index) (s : Sound (handed desk) x) where
+  batch-sound : (c : Call) → Lent c → Sound (handed desk) (batchReply (λ y. y) x (answer desk c x) .after)
+  batch-sound c lent = by (refusal (handed desk) c x) refl
     where
-      by : (n : ℕ) → refusal desk c x ≡ n → Sound desk (batchReply (λ y. y) x (unless n (batch desk (tasksOf c) x)) .after)
-      by zero e = M.one-batch desk c x s lent e .sound
+      by : (n : ℕ) → refusal (handed desk) c x ≡ n → Sound (handed desk) (batchReply (λ y. y) x (unless n (batch (handed desk) (tasksOf c) x)) .after)
+      by zero e = M.one-batch (handed desk) c x s lent e .sound
       by (suc n) e = s
 
-  reply-sound : (w : Wanted) → WantedFits w → Sound desk (reply (λ y. y) x desk w x .after)
+  reply-sound : (w : Wanted) → WantedFits w → Sound (handed desk) (reply (λ y. y) x (handed desk) w x .after)
   reply-sound (set es) f = batch-sound (setCall es) (lent-set f)
   reply-sound (drops ks) f = batch-sound (dropCall ks) (lent-drop f)
   reply-sound dump f = s
@@ -86,15 +86,15 @@ module _ (x : Index) (s : Sound desk x) where
   pool = imageOf desk x
 
   on-sound : (w : Wanted) (t : List ℕ) (a : Outcome)
-      → Where (SoundPool pool) (outcome t (reply (imageOf (settingsIn pool)) pool (settingsIn pool) w (indexOf pool))) (outcome t (refusing pool 2)) a
-      → a ≡ outcome t (held (imageOf desk) x (reply (λ y. y) x desk w x))
+      → Where (SoundPool pool) (outcome t (reply (imageOf (givenIn pool)) pool (settingsIn pool) w (indexOf pool))) (outcome t (refusing pool 2)) a
+      → a ≡ outcome t (held (imageOf desk) x (reply (λ y. y) x (handed desk) w x))
   on-sound w t a p =
       by-sound (image-sound desk x s) p
-      ∙ ap (λ st. outcome t (reply (imageOf st) pool st w (indexOf pool))) (image-settings desk x s)
-      ∙ ap (λ i. outcome t (reply (imageOf desk) pool desk w i)) (image-index desk x s)
-      ∙ ap (outcome t) (reply-held (imageOf desk) x desk w)
+      ∙ ap (λ given. outcome t (reply (imageOf given) pool (handed given) w (indexOf pool))) (image-given desk x s)
+      ∙ ap (λ i. outcome t (reply (imageOf desk) pool (handed desk) w i)) (image-index desk x s)
+      ∙ ap (outcome t) (reply-held (imageOf desk) x (handed desk) w)
 
-  answer-is : (w : Wanted) (t : List ℕ) (a : Outcome) → Answers w pool t a → a ≡ outcome t (held (imageOf desk) x (reply (λ y. y) x desk w x))
+  answer-is : (w : Wanted) (t : List ℕ) (a : Outcome) → Answers w pool t a → a ≡ outcome t (held (imageOf desk) x (reply (λ y. y) x (handed desk) w x))
   answer-is (set es) t a p = on-sound (set es) t a p
   answer-is (drops ks) t a p = on-sound (drops ks) t a p
   answer-is dump t a p = on-sound dump t a p
@@ -102,7 +102,7 @@ module _ (x : Index) (s : Sound desk x) where
 
 -- LINES ONE AFTER THE OTHER
 
-run : (ls : List (List ℕ)) (x : Index) (written : List ℕ) → Sound desk x → Session (map kept ls) (imageOf desk x) written → written ≡ answers ls x
+run : (ls : List (List ℕ)) (x : Index) (written : List ℕ) → Sound (handed desk) x → Session (map kept ls) (imageOf desk x) written → written ≡ answers ls x
 run [] x written s rest = refl
 run (l ∷ ls) x written s (next {written = behind} t a p q) =
     let y = answered l x in
@@ -112,7 +112,7 @@ run (l ∷ ls) x written s (next {written = behind} t a p q) =
     run ls (y .after) behind (reply-sound x s (wanted l) (wanted-fits l)) (subst (λ m. Session (map kept ls) m behind) (ap (λ (o : Outcome). o .pool) is) q) in
     ap (_++ behind) text ∙ ap (y .text ++_) on
 
-desk-limits : InLimits desk
+desk-limits : InLimits (handed desk)
 desk-limits = record { many = omega arith; bounded = omega arith; wide = omega arith; narrow = omega arith; some = omega arith; least = omega arith }
 
 pub writes-the-program : WritesTheProgram

@@ -7,7 +7,7 @@ use lib.ListN.{length, take, drop}
 use Rattle.model.specs.Tree.{newIndex}
 use Rattle.model.specs.Refuse.{Call}
 use Rattle.model.specs.Refuse as Batch
-use Rattle.tree.specs.Pool.{SoundPool, settingsIn, indexOf, imageOf}
+use Rattle.tree.specs.Pool.{SoundPool, givenIn, settingsIn, indexOf, imageOf}
 use Rattle.index_promise.specs.Promise.{Where}
 use Rattle.desk_lines.specs.Lines.{linesOf}
 use Rattle.desk_lines.specs.Parts.{Kept, kept}
@@ -35,10 +35,10 @@ OnPool l t y a = Where (SoundPool l) (outcome t y) (outcome t (refusing l 2)) a
 
 -- a batch
 abbrev pub Changes : Call → List ℕ → List ℕ → Outcome → Type 0
-Changes c l t a = OnPool l t (batchReply (imageOf (settingsIn l)) l (Batch.answer (settingsIn l) c (indexOf l))) a
+Changes c l t a = OnPool l t (batchReply (imageOf (givenIn l)) l (Batch.answer (settingsIn l) c (indexOf l))) a
 
 abbrev pub Replies : Wanted → List ℕ → List ℕ → Outcome → Type 0
-Replies w l t a = OnPool l t (reply (imageOf (settingsIn l)) l (settingsIn l) w (indexOf l)) a
+Replies w l t a = OnPool l t (reply (imageOf (givenIn l)) l (settingsIn l) w (indexOf l)) a
 
 -- a line that asks for nothing is refused before the pool is looked at
 abbrev pub Answers : Wanted → List ℕ → List ℕ → Outcome → Type 0

@@ -4,6 +4,7 @@ use mathlib.Core.Path.{_≡_, refl, sym, ap, _∙_, subst}
 use mathlib.Core.Bool.{false, cond}
 use mathlib.Core.List.{List, []}
 use Prim.Native.Nat.{ℕ, zero, suc}
+use Rattle.model.specs.declared.PoolSettings.{PoolSettings}
 use Rattle.model.specs.declared.Settings.{Settings}
 use Rattle.model.specs.declared.Counts.{Counts}
 use Rattle.model.specs.declared.Entry.{Entry}
@@ -14,12 +15,12 @@ use Rattle.model.specs.Change.{Batched, batch}
 use Rattle.model.specs.Answer.{Answer, refused, done, unless}
 use Rattle.model.specs.Look.{Listing, getAll, scan}
 use Rattle.model.specs.Refuse.{Call, tasksOf, refusal, descend}
-use Rattle.model.specs.Sound.{Sound}
+use Rattle.model.specs.Sound.{handed, Sound}
 use Rattle.model.specs.Demands as D
 use Rattle.model.proofs.Answers.{refused-done}
 use Rattle.model.proofs.Demands as M
 use Rattle.model.proofs.Calls.{new-sound}
-use Rattle.tree.specs.Pool.{SoundPool, settingsIn, indexOf, imageOf}
+use Rattle.tree.specs.Pool.{SoundPool, givenIn, settingsIn, indexOf, imageOf}
 use Rattle.tree.proofs.Pools.{sound-index, image-sound, image-index, image-settings}
 use Rattle.look_output.specs.Output.{roomIn}
 use Rattle.index_promise.specs.declared.OpenAnswer.the-variants as Open
@@ -58,7 +59,7 @@ record Accepted (c : Call) (l : List ℕ) (k : Counts) (m : List ℕ) : Type 0 w
   sound : SoundPool l
   passed : refusal (settingsIn l) c (indexOf l) ≡ 0
   counts : k ≡ batch (settingsIn l) (tasksOf c) (indexOf l) .counts
-  bytes : m ≡ imageOf (settingsIn l) (batch (settingsIn l) (tasksOf c) (indexOf l) .index)
+  bytes : m ≡ imageOf (givenIn l) (batch (settingsIn l) (tasksOf c) (indexOf l) .index)
 
 module _ (c : Call) (l : List ℕ) where
   abbrev st : Settings
@@ -68,7 +69,7 @@ module _ (c : Call) (l : List ℕ) where
   outcome = batch st (tasksOf c) (indexOf l)
 
   abbrev left : Answer Batched → Left Counts
-  left = leaves (λ b. b .counts) (λ b. imageOf st (b .index)) l
+  left = leaves (λ b. b .counts) (λ b. imageOf (givenIn l) (b .index)) l
 
   accepted : {k : Counts} {m : List ℕ} → Batches c l (Batch.Done k) m → Accepted c l k m
   accepted {k} {m} (fails u e) = absurd (refused-done 2 k (sym (ap (λ (w : Left Counts). w .answer) e)))
@@ -104,10 +105,10 @@ after c l k m lent a =
     let x = indexOf l in
     let b : D.Batches st c x (batch st (tasksOf c) x) = M.one-batch st c x (sound-index l (a .sound)) lent (a .passed) in
     let y = batch st (tasksOf c) x .index in
-    let i : indexOf m ≡ y = ap indexOf (a .bytes) ∙ image-index st y (b .sound) in
+    let i : indexOf m ≡ y = ap indexOf (a .bytes) ∙ image-index (givenIn l) y (b .sound) in
     record {
-      sound = subst SoundPool (sym (a .bytes)) (image-sound st y (b .sound));
-      settings = ap settingsIn (a .bytes) ∙ image-settings st y (b .sound);
+      sound = subst SoundPool (sym (a .bytes)) (image-sound (givenIn l) y (b .sound));
+      settings = ap settingsIn (a .bytes) ∙ image-settings (givenIn l) y (b .sound);
       index = i;
       list = ap entriesOf i ∙ b .list;
       counted = a .counts ∙ b .counts;
@@ -140,16 +141,16 @@ onwards es l now ts lent a runs =
     let k = run es lent (record { sound = a .sound; list = a .holds }) runs in (answers-from (plainRun ts es) now (k .0 .sound) (k .0 .list), k .1)
 
 -- an opened pool has no entries
-opened : (st : Settings) (l new : List ℕ) → Opens st l Open.Done new → AnswersFrom [] new
-opened st l new (fails u e) = absurd (refused-done 1 tt (sym (ap (λ w. w .answer) e)))
-opened st l new (holds (lim, exact) e) =
-    let x = newIndex (st .nodes) in
-    let s : Sound st x = new-sound st lim in
-    let is : new ≡ imageOf st x = ap (λ w. w .bytes) e in
-    answers-from [] new (subst SoundPool (sym is) (image-sound st x s)) (ap entriesOf (ap indexOf is ∙ image-index st x s))
+opened : (given : PoolSettings) (l new : List ℕ) → Opens given l Open.Done new → AnswersFrom [] new
+opened given l new (fails u e) = absurd (refused-done 1 tt (sym (ap (λ w. w .answer) e)))
+opened given l new (holds (lim, exact) e) =
+    let x = newIndex (given .nodes) in
+    let s : Sound (handed given) x = new-sound given lim in
+    let is : new ≡ imageOf given x = ap (λ w. w .bytes) e in
+    answers-from [] new (subst SoundPool (sym is) (image-sound given x s)) (ap entriesOf (ap indexOf is ∙ image-index given x s))
 
 pub demand-3 : Demand3
-demand-3 st l new now ts lent o runs = onwards [] new now ts lent (opened st l new o) runs
+demand-3 given l new now ts lent o runs = onwards [] new now ts lent (opened given l new o) runs
 
 -- TWO NEIGHBOURS
 

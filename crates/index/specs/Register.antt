@@ -4,7 +4,7 @@ use mathlib.Core.Path.{_≡_}
 use mathlib.Core.Bool.{false}
 use mathlib.Core.List.{List, [], _∷_, map}
 use lib.ListN.{length}
-use Rattle.model.specs.declared.Settings.{Settings}
+use Rattle.model.specs.declared.PoolSettings.{PoolSettings}
 use Rattle.model.specs.declared.Counts.{Counts}
 use Rattle.model.specs.declared.Entry.{Entry}
 use Rattle.model.specs.Lists.{All}
@@ -81,7 +81,7 @@ Onwards =
 -- and so from a newly opened pool, which has no entries
 abbrev pub Demand3 : Type 0
 Demand3 =
-    (st : Settings) (l new now : List ℕ) (ts : List Turn) → All (λ t. Lent (t .call)) ts → Opens st l Open.Done new → Runs ts new now
+    (given : PoolSettings) (l new now : List ℕ) (ts : List Turn) → All (λ t. Lent (t .call)) ts → Opens given l Open.Done new → Runs ts new now
     → AnswersFrom (plainRun ts []) now × Counted ts []
 
 -- TWO NEIGHBOURING BATCHES that share no key, both accepted in either order, may change places

@@ -13,13 +13,13 @@ pub use index_look::totals;
 use index_promise::BatchAnswer;
 use index_promise::OpenAnswer;
 use model::Operation;
-use model::Settings;
+use model::PoolSettings;
 
 // Makes the pool one empty leaf, whatever it held. Refused as 1 where a setting or the pool's length is wrong.
-pub fn open(pool: &mut [u8], st: Settings) -> OpenAnswer
-    ensures { λ r. ⌜ Opens st (now (pool .entry)) r (now (pool .exit)) ⌝ }
+pub fn open(pool: &mut [u8], given: PoolSettings) -> OpenAnswer
+    ensures { λ r. ⌜ Opens given (now (pool .entry)) r (now (pool .exit)) ⌝ }
 {
-    if tree::open(pool, st) {
+    if tree::open(pool, given) {
         OpenAnswer::Done
     } else {
         OpenAnswer::Refused(1)

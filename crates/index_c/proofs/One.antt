@@ -3,12 +3,12 @@ use Prim.Native.Nat.{ℕ}
 use mathlib.Core.Path.{_≡_, refl, sym, ap, _∙_}
 use mathlib.Core.List.{List}
 use lib.ListN.{length}
-use Rattle.model.specs.declared.Settings.{Settings}
+use Rattle.model.specs.declared.PoolSettings.{PoolSettings}
 use Rattle.model.specs.Answer.{Answer}
 use Rattle.model.specs.declared.Request.{Request}
 use Rattle.model.specs.Refuse.{Call}
 use Rattle.model.specs.Frame.{Frame, writeFrame}
-use Rattle.model.specs.Sound.{InLimits}
+use Rattle.model.specs.Sound.{handed, InLimits}
 use Rattle.tree.specs.Pool.{poolLen}
 use Rattle.frame.proofs.Undoes.{one-written}
 use Rattle.index_promise.specs.Promise.{Where, opening, totalled, batched, got, scanned}
@@ -20,10 +20,10 @@ use Rattle.index_c_fields.specs.Fields.{Fields, frameFields}
 use Rattle.index_c.specs.Calls.{Kept, OpenCall, TotalsCall, BatchCall, GetCall, ScanCall, FrameCall, WriteCall, ReadCall}
 use Rattle.index_c_told.proofs.Reported.{one-report}
 
-pub one-pool-len : (st : Settings) (r q : ℕ) → Where (InLimits st) (poolLen st) 0 r → Where (InLimits st) (poolLen st) 0 q → r ≡ q
+pub one-pool-len : (st : PoolSettings) (r q : ℕ) → Where (InLimits (handed st)) (poolLen st) 0 r → Where (InLimits (handed st)) (poolLen st) 0 q → r ≡ q
 one-pool-len st r q = where-unique
 
-pub one-open-call : (st : Settings) (l k m : List ℕ) (r q : ℕ) → OpenCall st l r k → OpenCall st l q m → (r ≡ q) × (k ≡ m)
+pub one-open-call : (st : PoolSettings) (l k m : List ℕ) (r q : ℕ) → OpenCall st l r k → OpenCall st l q m → (r ≡ q) × (k ≡ m)
 one-open-call st l k m r q x y =
     let u = one-opening st l k m (x .0) (y .0) (x .1 .0) (y .1 .0) in (x .1 .1 ∙ ap (λ (a : OpenAnswer). codeOf (opening a)) (u .0) ∙ sym (y .1 .1), u .1)
 

@@ -3,10 +3,10 @@ use Prim.Native.Nat.{ℕ}
 use mathlib.Core.Path.{_≡_, refl, sym, ap, _∙_}
 use mathlib.Core.Bool.{Bool, true, false, not}
 use borrow.Author.Tests.{not-true, not-false}
-use Rattle.model.specs.declared.Settings.{Settings}
+use Rattle.model.specs.declared.PoolSettings.{PoolSettings}
 use Rattle.model.specs.Answer.{Answer, Tells}
 use Rattle.model.specs.Frame.{Frame}
-use Rattle.model.specs.Sound.{InLimits}
+use Rattle.model.specs.Sound.{handed, InLimits}
 use Rattle.model.proofs.Answers.{told-no}
 use Rattle.tree.specs.Pool.{poolLen}
 use Rattle.frame_text.specs.declared.ReadAnswer.{ReadAnswer}
@@ -19,14 +19,14 @@ use Rattle.index_c_fields.specs.Fields.{Fields, fieldsOf, frameFields, contents
 
 -- THE LENGTH OF A POOL
 
-module _ (st : Settings) (b : Bool) (t : Tells b (InLimits st)) where
-  pub len-wrong : not b ≡ true → Where (InLimits st) (poolLen st) 0 0
+module _ (st : PoolSettings) (b : Bool) (t : Tells b (InLimits (handed st))) where
+  pub len-wrong : not b ≡ true → Where (InLimits (handed st)) (poolLen st) 0 0
   len-wrong e = fails (told-no t (not-true b e)) refl
 
-  pub len-limits : not b ≡ false → InLimits st
+  pub len-limits : not b ≡ false → InLimits (handed st)
   len-limits e = t .holds (not-false b e)
 
-  pub len-right : (n : ℕ) → not b ≡ false → n ≡ poolLen st → Where (InLimits st) (poolLen st) 0 n
+  pub len-right : (n : ℕ) → not b ≡ false → n ≡ poolLen st → Where (InLimits (handed st)) (poolLen st) 0 n
   len-right n e h = holds (len-limits e) h
 
 -- READING A FRAME

@@ -3,7 +3,7 @@ use Prim.Native.Nat.{ℕ}
 use mathlib.Core.Path.{_≡_}
 use mathlib.Core.List.{List}
 use lib.ListN.{length}
-use Rattle.model.specs.declared.Settings.{Settings}
+use Rattle.model.specs.declared.PoolSettings.{PoolSettings}
 use Rattle.model.specs.Answer.{Answer}
 use Rattle.model.specs.declared.Request.{Request}
 use Rattle.model.specs.Refuse.{Call}
@@ -20,7 +20,7 @@ abbrev pub Kept : {R A B : Type 0} → (R → Type 0) → (R → Answer A) → (
 Kept {R = R} promise told f b r b′ = (a : R) × (promise a × Reports f (told a) b r b′)
 
 -- OPENING a pool l with the settings st; there is no small buffer
-abbrev pub OpenCall : Settings → List ℕ → ℕ → List ℕ → Type 0
+abbrev pub OpenCall : PoolSettings → List ℕ → ℕ → List ℕ → Type 0
 OpenCall st l r l′ = (a : OpenAnswer) × (Opens st l a l′ × (r ≡ codeOf (opening a)))
 
 -- of the pool l, and the small buffer b

@@ -4,7 +4,7 @@
 // buffer as it was, the small ones too. What each answers and leaves stands in specs/Calls. include/alarm_index.h declares them for C.
 ghost use Rattle.model.specs.declared.Operation.the-variants.{Set, Remove, Compare};
 ghost use Rattle.model.specs.ReadFrame.{readLine};
-ghost use Rattle.model.specs.Sound.{InLimits};
+ghost use Rattle.model.specs.Sound.{handed, InLimits};
 ghost use Rattle.tree.specs.Pool.{poolLen};
 ghost use Rattle.look.specs.Calls.{requestFor};
 ghost use Rattle.frame_text.specs.Contents.{frameOf};
@@ -32,7 +32,7 @@ use model::Sift;
 // The exact length of a pool, in bytes; 0 where a setting is wrong.
 #[no_mangle]
 pub extern "C" fn alarm_pool_len(nodes: u64, order: u64, minimum: u64) -> u64
-    ensures { λ r. ⌜ Where (InLimits (settingsFor nodes order minimum)) (poolLen (settingsFor nodes order minimum)) 0 r ⌝ }
+    ensures { λ r. ⌜ Where (InLimits (handed (settingsFor nodes order minimum))) (poolLen (settingsFor nodes order minimum)) 0 r ⌝ }
 {
     let st = settings(nodes, order, minimum);
     if !tree::in_limits(st) {

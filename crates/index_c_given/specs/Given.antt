@@ -3,7 +3,7 @@ use Prim.Native.Nat.{ℕ}
 use mathlib.Core.Bool.{Bool, cond}
 use mathlib.Core.List.{List, []}
 use lib.ListN.{getD}
-use Rattle.model.specs.declared.Settings.{Settings}
+use Rattle.model.specs.declared.PoolSettings.{PoolSettings}
 use Rattle.model.specs.declared.Reference.{Reference}
 use Rattle.model.specs.declared.Operation.{Operation}
 use Rattle.model.specs.declared.Operation.the-variants.{SetEach}
@@ -24,7 +24,7 @@ use Rattle.frame_text.specs.declared.Contents.{Contents}
 use Rattle.frame_text.specs.Contents.{ofEntry, ofBranch}
 use Rattle.index_c_given.specs.Places.{places}
 
-abbrev pub settingsFor : ℕ → ℕ → ℕ → Settings
+abbrev pub settingsFor : ℕ → ℕ → ℕ → PoolSettings
 settingsFor nodes order minimum = record { nodes = nodes; order = order; minimum = minimum }
 
 -- BATCHES

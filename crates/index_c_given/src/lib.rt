@@ -10,14 +10,14 @@ use model::Action;
 use model::Bound;
 use model::Direction;
 use model::Expectation;
+use model::PoolSettings;
 use model::Reference;
-use model::Settings;
 use model::Totals;
 
-pub fn settings(nodes: u64, order: u64, minimum: u64) -> Settings
+pub fn settings(nodes: u64, order: u64, minimum: u64) -> PoolSettings
     ensures { λ r. ⌜ r ≡ settingsFor nodes order minimum ⌝ }
 {
-    Settings {
+    PoolSettings {
         nodes: nodes as usize,
         order: order as usize,
         minimum: minimum as usize,

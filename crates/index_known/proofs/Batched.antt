@@ -17,7 +17,7 @@ use Rattle.model.specs.Demands.{Lent}
 use Rattle.model.specs.Demands as D
 use Rattle.model.proofs.Demands.{one-batch}
 use Rattle.tree.specs.Bridge.{HoldsIndex}
-use Rattle.tree.specs.Pool.{settingsIn, nodesIn, indexOf, imageOf, SoundPool}
+use Rattle.tree.specs.Pool.{givenIn, settingsIn, nodesIn, indexOf, imageOf, SoundPool}
 use Rattle.tree.proofs.Pools.{sound-held, sound-index, sound-header, sound-holds-index, held-bytes, image-sound, image-index, image-settings}
 use Rattle.tree_spare.specs.Spared.{Spared}
 use Rattle.batch_root.specs.declared.Root.{Root}
@@ -44,7 +44,7 @@ module _ {l : List ℕ} {k : Known} (w : Knows l k) where
 
   module _ (c : Call) where
     abbrev left : ℕ → Left Counts
-    left n = leaves (λ b. b .counts) (λ b. imageOf st (b .index)) l (unless n (batch st (tasksOf c) (indexOf l)))
+    left n = leaves (λ b. b .counts) (λ b. imageOf (givenIn l) (b .index)) l (unless n (batch st (tasksOf c) (indexOf l)))
 
     module _ (n : ℕ) (r : Refuses (k .settings) (k .height) (k .spare .unused) c n) where
       refusal-is : n ≡ refusal st c (indexOf l)
@@ -90,9 +90,9 @@ module _ {l : List ℕ} {k : Known} (w : Knows l k) where
           good : D.Batches st c (indexOf l) b
           good = one-batch st c (indexOf l) (sound-index l (w .sound)) lent passed
 
-          image : m ≡ imageOf st (b .index)
+          image : m ≡ imageOf (givenIn l) (b .index)
           image =
-              held-bytes st (b .index) (words m) m (did .held) (did .header ∙ sound-header l (w .sound))
+              held-bytes (givenIn l) (b .index) (words m) m (did .held) (did .header ∙ sound-header l (w .sound))
               (subst (λ (x : Batched). HoldsIndex (nodes st (words m)) (x .index)) from (did .holds)) (good .sound) refl (len ∙ w .sound .exact) bytes
 
           pub store-done : Batches c l (Batch.Done (ran .counts)) m
@@ -103,15 +103,15 @@ module _ {l : List ℕ} {k : Known} (w : Knows l k) where
               ∙ ap left (sym passed))
 
           settings-kept : settingsIn m ≡ st
-          settings-kept = ap settingsIn image ∙ image-settings st (b .index) (good .sound)
+          settings-kept = ap settingsIn image ∙ image-settings (givenIn l) (b .index) (good .sound)
 
           index-now : indexOf m ≡ b .index
-          index-now = ap indexOf image ∙ image-index st (b .index) (good .sound)
+          index-now = ap indexOf image ∙ image-index (givenIn l) (b .index) (good .sound)
 
           pub store-known : Knows m (record { settings = k .settings; height = ran .root .height; spare = ran .root .spare })
           store-known =
               record {
-                sound = subst SoundPool (sym image) (image-sound st (b .index) (good .sound));
+                sound = subst SoundPool (sym image) (image-sound (givenIn l) (b .index) (good .sound));
                 settings = w .settings ∙ sym settings-kept;
                 height = did .height ∙ ap (λ (x : Batched). x .index .height) from ∙ ap (λ (x : Index). x .height) (sym index-now);
                 spared = subst (λ (u : Settings). Spared (nodes u (words m)) (ran .root .spare)) (sym settings-kept) (did .spared);

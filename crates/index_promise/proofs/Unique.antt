@@ -2,7 +2,7 @@
 use mathlib.Core.Path.{_≡_, refl, sym, ap, _∙_}
 use mathlib.Core.List.{List}
 use Prim.Native.Nat.{ℕ}
-use Rattle.model.specs.declared.Settings.{Settings}
+use Rattle.model.specs.declared.PoolSettings.{PoolSettings}
 use Rattle.model.specs.Answer.{Answer, refused, done}
 use Rattle.model.specs.declared.Request.{Request}
 use Rattle.model.specs.Refuse.{Call}
@@ -76,8 +76,8 @@ length-again (Write.Refused n) = refl
 
 -- THE CALLS
 
-pub one-opening : (st : Settings) (l k m : List ℕ) (r q : OpenAnswer) → Opens st l r k → Opens st l q m → (r ≡ q) × (k ≡ m)
-one-opening st l k m = one-left (λ u. Open.Done) Open.Refused opening opening-again
+pub one-opening : (given : PoolSettings) (l k m : List ℕ) (r q : OpenAnswer) → Opens given l r k → Opens given l q m → (r ≡ q) × (k ≡ m)
+one-opening given l k m = one-left (λ u. Open.Done) Open.Refused opening opening-again
 
 pub one-totals : (l : List ℕ) (r q : TotalsAnswer) → Totalling l r → Totalling l q → r ≡ q
 one-totals l r q a b = known Totalled.Done Totalled.Refused totalled totals-again r q (where-unique a b)

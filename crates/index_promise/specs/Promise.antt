@@ -3,7 +3,7 @@ use Prim.Native.Nat.{ℕ}
 use mathlib.Core.Path.{_≡_}
 use mathlib.Core.List.{List, _++_}
 use lib.ListN.{length, drop}
-use Rattle.model.specs.declared.Settings.{Settings}
+use Rattle.model.specs.declared.PoolSettings.{PoolSettings}
 use Rattle.model.specs.declared.Totals.{Totals}
 use Rattle.model.specs.declared.Counts.{Counts}
 use Rattle.model.specs.Tree.{totalsOf, newIndex}
@@ -12,8 +12,8 @@ use Rattle.model.specs.declared.Request.{Request}
 use Rattle.model.specs.Look.{Listing, Scanned, scan}
 use Rattle.model.specs.Refuse.{Call, answer, get}
 use Rattle.model.specs.Frame.{writeNode}
-use Rattle.model.specs.Sound.{InLimits}
-use Rattle.tree.specs.Pool.{SoundPool, settingsIn, indexOf, imageOf, poolLen}
+use Rattle.model.specs.Sound.{handed, InLimits}
+use Rattle.tree.specs.Pool.{SoundPool, givenIn, settingsIn, indexOf, imageOf, poolLen}
 use Rattle.index_promise.specs.declared.OpenAnswer.{OpenAnswer}
 use Rattle.index_promise.specs.declared.OpenAnswer.the-variants as Open
 use Rattle.index_promise.specs.declared.TotalsAnswer.{TotalsAnswer}
@@ -59,9 +59,10 @@ abbrev pub opening : OpenAnswer → Answer (Unit {0})
 opening Open.Done = done tt
 opening (Open.Refused n) = refused n
 
-abbrev pub Opens : Settings → List ℕ → OpenAnswer → List ℕ → Type 0
-Opens st l r l′ =
-    Where (InLimits st × (length l ≡ poolLen st)) (done tt leaving imageOf st (newIndex (st .nodes))) (refused 1 leaving l) (opening r leaving l′)
+abbrev pub Opens : PoolSettings → List ℕ → OpenAnswer → List ℕ → Type 0
+Opens given l r l′ =
+    Where (InLimits (handed given) × (length l ≡ poolLen given)) (done tt leaving imageOf given (newIndex (given .nodes))) (refused 1 leaving l)
+    (opening r leaving l′)
 
 -- TOTALS of the pool l
 
@@ -80,7 +81,7 @@ batched (Batch.Refused n) = refused n
 
 abbrev pub Batches : Call → List ℕ → BatchAnswer → List ℕ → Type 0
 Batches c l r l′ =
-    Where (SoundPool l) (leaves (λ b. b .counts) (λ b. imageOf (settingsIn l) (b .index)) l (answer (settingsIn l) c (indexOf l)))
+    Where (SoundPool l) (leaves (λ b. b .counts) (λ b. imageOf (givenIn l) (b .index)) l (answer (settingsIn l) c (indexOf l)))
     (unsound l) (batched r leaving l′)
 
 -- GET AND SCAN write the first entries that fit whole, and leave every byte behind them as it was

@@ -9,6 +9,7 @@ use lib.Dec.{leb, ltb, eqb}
 use lib.ListN.{length, length-map}
 use borrow.Author.Tests.{ltb-true, ltb-false, leb-false, eqb-true, eqb-false, not-false}
 use Rattle.model.specs.declared.Reference.{Reference}
+use Rattle.model.specs.declared.PoolSettings.{PoolSettings}
 use Rattle.model.specs.declared.Settings.{Settings}
 use Rattle.model.specs.declared.Action.{Action}
 use Rattle.model.specs.declared.Action.the-variants as Do
@@ -21,7 +22,7 @@ use Rattle.model.specs.declared.Wish.the-variants.{Always}
 use Rattle.model.specs.Plain.{references, Task, each, pairs, tasksFor}
 use Rattle.model.specs.Change.{noCeiling}
 use Rattle.model.specs.Refuse.{Call, tasksOf, isRemove, isEach, descend, needed, refusal}
-use Rattle.model.specs.Sound.{InLimits, Sound, Fits, Ascending, Once}
+use Rattle.model.specs.Sound.{handed, InLimits, Sound, Fits, Ascending, Once}
 use Rattle.model.specs.Demands.{ReferenceFits, ActionFits, OperationFits, Lent}
 use Rattle.model.specs.Contracts.{Rising, Removing, Grants}
 use Rattle.model.proofs.Lists.{by-test, both-left, both-right, or-left, or-right, all-map, hit-same, hit-other}
@@ -231,16 +232,16 @@ run-up : (a m : ℕ) → Ascending (upFrom a m)
 run-up a zero = nil
 run-up a (suc m) = cons (run-over (suc a) m a (omega arith)) (run-up (suc a) m)
 
-pub new-sound : (st : Settings) → InLimits st → Sound st (newIndex (st .nodes))
-new-sound st lim =
+pub new-sound : (given : PoolSettings) → InLimits (handed given) → Sound (handed given) (newIndex (given .nodes))
+new-sound given lim =
     record {
       settings = lim;
       rootSlot = refl;
-      once = new-once (st .nodes) (omega (arith, lim .many));
+      once = new-once (given .nodes) (omega (arith, lim .many));
       shallow = omega arith;
       rooted = omega arith;
       whole = none;
       sorted = nil;
       fit = none;
-      ascending = run-up 1 (st .nodes - 1);
+      ascending = run-up 1 (given .nodes - 1);
     }

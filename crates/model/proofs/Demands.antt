@@ -13,7 +13,7 @@ use Rattle.model.specs.Change.{batch}
 use Rattle.model.specs.Answer.{unless}
 use Rattle.model.specs.Look.{listing, found, dueIn}
 use Rattle.model.specs.Refuse.{Call, tasksOf, refusal, indexAfter}
-use Rattle.model.specs.Sound.{Rooted, Sound}
+use Rattle.model.specs.Sound.{handed, Rooted, Sound}
 use Rattle.model.specs.Demands.{Lent, Batches, OneBatch, RemoveTakesNone, NoInteriorPasses, runAll, plainAfter, plainAll, AnswersFrom, Demand3, Swap, Demands}
 use Rattle.model.specs.Contracts.{Ready}
 use Rattle.model.proofs.Lists.{all-map, all-swap}
@@ -109,9 +109,10 @@ sequence st x es none k = k
 sequence st x es (one {x = c} h hs) k = sequence st _ _ hs (keeps st c x es h k)
 
 pub demand-3 : Demand3
-demand-3 st cs lim lent =
+demand-3 given cs lim lent =
+    let st : Settings = handed given in
     let k : Kept st (plainAll st cs (newIndex (st .nodes)) []) (runAll st cs (newIndex (st .nodes))) =
-    sequence st (newIndex (st .nodes)) [] lent (record { sound = new-sound st lim; list = refl }) in
+    sequence st (newIndex (st .nodes)) [] lent (record { sound = new-sound given lim; list = refl }) in
     (k .sound, answers-from (runAll st cs (newIndex (st .nodes))) (plainAll st cs (newIndex (st .nodes)) []) (k .list))
 
 -- TWO NEIGHBOURS

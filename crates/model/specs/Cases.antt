@@ -10,6 +10,7 @@ use lib.ListN.{length}
 use Rattle.model.specs.declared.Entry.{Entry}
 use Rattle.model.specs.declared.Reference.{Reference}
 use Rattle.model.specs.declared.Settings.{Settings}
+use Rattle.model.specs.Sound.{handed}
 use Rattle.model.specs.declared.Totals.{Totals}
 use Rattle.model.specs.declared.Operation.the-variants as Op
 use Rattle.model.specs.declared.Expectation.the-variants as Expect
@@ -52,11 +53,11 @@ text String.[] = []
 text (String._∷_ c s) = code c ∷ text s
 
 abbrev pub desk : Settings
-desk = record { nodes = 16; order = 4; minimum = 2 }
+desk = handed (record { nodes = 16; order = 4; minimum = 2 })
 
 -- the same with N = 8
 abbrev pub eight : Settings
-eight = record { nodes = 8; order = 4; minimum = 2 }
+eight = handed (record { nodes = 8; order = 4; minimum = 2 })
 
 -- key k has place 256 + k and size 16, as in the program's input
 abbrev pub ref : ℕ → Reference
@@ -217,7 +218,7 @@ program =
 
 -- order 7 and minimum 3, as some of them want
 abbrev pub broad : Settings
-broad = record { nodes = 16; order = 7; minimum = 3 }
+broad = handed (record { nodes = 16; order = 7; minimum = 3 })
 
 abbrev pub fiveOfEight : Index
 fiveOfEight = after eight (set (1 ∷ []) ∷ set (2 ∷ []) ∷ set (3 ∷ []) ∷ set (4 ∷ []) ∷ set (5 ∷ []) ∷ []) (newIndex 8)

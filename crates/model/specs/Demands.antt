@@ -8,6 +8,7 @@ use Prim.Native.Nat.{ℕ, zero, suc, _*_, _^_, _≤_, _<_}
 use lib.ListN.{length, drop}
 use Rattle.model.specs.declared.Entry.{Entry}
 use Rattle.model.specs.declared.Reference.{Reference}
+use Rattle.model.specs.declared.PoolSettings.{PoolSettings}
 use Rattle.model.specs.declared.Settings.{Settings}
 use Rattle.model.specs.declared.Action.{Action}
 use Rattle.model.specs.declared.Action.the-variants as Do
@@ -24,7 +25,7 @@ use Rattle.model.specs.Look.{listing, found, getAll, dueIn, openings, sc
 use Rattle.model.specs.Refuse.{Call, tasksOf, isRemove, refusal, answer, indexAfter}
 use Rattle.model.specs.Frame.{Frame, keysOf, framesOf, lineOf, entriesRefusal}
 use Rattle.model.specs.ReadFrame.{readLine}
-use Rattle.model.specs.Sound.{InLimits, Whole, Sorted, Sound, FrameFits}
+use Rattle.model.specs.Sound.{handed, InLimits, Whole, Sorted, Sound, FrameFits}
 use Rattle.model.specs.Contracts.{flat, joined, OverFull}
 
 -- WHAT A CALL LENDS are numbers of their types: keys and places of 8 bytes, sizes of 4
@@ -149,8 +150,9 @@ pub record AnswersFrom (es : List Entry) (x : Index) : Type 0 where
 
 abbrev pub Demand3 : Type 0
 Demand3 =
-    (st : Settings) (cs : List Call) → InLimits st → All Lent cs
-    → Sound st (runAll st cs (newIndex (st .nodes))) × AnswersFrom (plainAll st cs (newIndex (st .nodes)) []) (runAll st cs (newIndex (st .nodes)))
+    (given : PoolSettings) (cs : List Call) → InLimits (handed given) → All Lent cs
+    → let st = handed given in
+    Sound st (runAll st cs (newIndex (st .nodes))) × AnswersFrom (plainAll st cs (newIndex (st .nodes)) []) (runAll st cs (newIndex (st .nodes)))
 
 -- TWO NEIGHBOURING BATCHES that share no key, both accepted in either order, may change places: the counts are the same, and so is the answer
 -- to every get, scan list and totals call straight after the pair

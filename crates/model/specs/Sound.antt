@@ -3,13 +3,18 @@
 use mathlib.Core.Path.{_≡_}
 use mathlib.Core.Bool.{cond}
 use mathlib.Core.List.{List}
-use Prim.Native.Nat.{ℕ, zero, suc, _+_, _/_, _^_, _≤_, _<_}
+use Prim.Native.Nat.{ℕ, zero, suc, _+_, _*_, _/_, _^_, _≤_, _<_}
 use lib.Dec.{ltb}
 use Rattle.model.specs.declared.Entry.{Entry}
+use Rattle.model.specs.declared.PoolSettings.{PoolSettings}
 use Rattle.model.specs.declared.Settings.{Settings}
 use Rattle.model.specs.Lists.{All, Ordered, times}
 use Rattle.model.specs.Frame.{Branch, Frame, leaf, interior}
 use Rattle.model.specs.Tree.{Node, Item, Tree, Index, len, depth, entriesOf, slotsOf}
+
+-- what every layer is handed in a pool that was opened with some settings: a slot has room for twice order rows, and the root is in slot 0
+abbrev pub handed : PoolSettings → Settings
+handed given = record { nodes = given .nodes; order = given .order; minimum = given .minimum; rows = 2 * given .order; root = 0 }
 
 -- N is 8 to 16,384; order 4 to 32; minimum 1 up to (order + 1) / 2 rounded down
 pub record InLimits (st : Settings) : Type 0 where
@@ -74,7 +79,7 @@ Once n used unused = (s : ℕ) → times s used + times s unused ≡ cond (ltb s
 -- THE INDEX
 pub record Sound (st : Settings) (x : Index) : Type 0 where
   pub settings : InLimits st
-  pub rootSlot : x .root .slot ≡ 0
+  pub rootSlot : x .root .slot ≡ st .root
   pub once : Once (st .nodes) (slotsOf x) (x .unused)
   pub shallow : depth x ≤ 8
   pub rooted : Rooted st (x .height) (x .root)

@@ -2,16 +2,41 @@
 //
 // What they mean stands in specs/: a reader with document 01 in hand finds each of its rules there, one file to an idea.
 ghost use mathlib.Core.Path.{_≡_};
+ghost use Prim.Native.Nat.{_≤_};
+ghost use Rattle.model.specs.Sound as Sound;
 ghost use Rattle.model.specs.Tree.{isMark, noTotals};
 ghost use Rattle.model.specs.Plain.{noCounts};
 ghost use Rattle.model.specs.Look as look;
 ghost use Rattle.model.specs.Refuse.{isRemove};
 
-// The settings of a pool: how many nodes it has, how many entries a node may hold, and below how many it is joined.
+// The settings that a pool is opened with: how many nodes it has, how many entries a node may hold, and below how many it is joined.
+pub struct PoolSettings {
+    pub nodes: usize,
+    pub order: usize,
+    pub minimum: usize,
+}
+
+// What every layer is handed: the settings, how many rows a slot has room for, and the slot of the root.
 pub struct Settings {
     pub nodes: usize,
     pub order: usize,
     pub minimum: usize,
+    pub rows: usize,
+    pub root: usize,
+}
+
+// What the layers are handed in a pool that was opened with these settings. A node may hold twice its order while a batch runs.
+pub fn handed(given: PoolSettings) -> Settings
+    requires { ⌜ given .order ≤ 32 ⌝ }
+    ensures { λ r. ⌜ r ≡ Sound.handed given ⌝ }
+{
+    Settings {
+        nodes: given.nodes,
+        order: given.order,
+        minimum: given.minimum,
+        rows: 2 * given.order,
+        root: 0,
+    }
 }
 
 // Where a value lies (place 0 marks a deletion) and how many bytes it has.

@@ -22,8 +22,8 @@ use Rattle.slots.proofs.Pads.{take-pad, part-pad, length-putIn, length-
 pub length-slots : (st : Settings) (W : List ℕ) → length (slots st W) ≡ st .nodes
 unfolding slots
 length-slots st W =
-    let cs = chunks (width (st .order)) (st .nodes) (drop 4 W) in
-    length-map cs (rawOf (st .order)) ∙ length-chunks (width (st .order)) (st .nodes) (drop 4 W)
+    let cs = chunks (width (st .rows)) (st .nodes) (drop 4 W) in
+    length-map cs (rawOf (st .rows)) ∙ length-chunks (width (st .rows)) (st .nodes) (drop 4 W)
 
 pub length-nodes : (st : Settings) (W : List ℕ) → length (nodes st W) ≡ st .nodes
 unfolding nodes
@@ -32,25 +32,25 @@ length-nodes st W = length-map (slots st W) nodeOf ∙ length-slots st W
 -- slot s holds node s
 pub node-raw : (st : Settings) (W : List ℕ) (s : ℕ) → nodeOf (rawAt st W s) ≡ nth (nodes st W) s
 unfolding nodes nodeOf rawAt rawOf
-node-raw st W s = sym (List·getD-map nodeOf (slots st W) s (rawOf (st .order) []))
+node-raw st W s = sym (List·getD-map nodeOf (slots st W) s (rawOf (st .rows) []))
 
 -- and nothing else
-pub raw-node : (st : Settings) (W : List ℕ) (s : ℕ) → Held st W → rawAt st W s ≡ rawFor (st .order) (nth (nodes st W) s)
-raw-node st W s h = h .each s .same ∙ ap (rawFor (st .order)) (node-raw st W s)
+pub raw-node : (st : Settings) (W : List ℕ) (s : ℕ) → Held st W → rawAt st W s ≡ rawFor (st .rows) (nth (nodes st W) s)
+raw-node st W s h = h .each s .same ∙ ap (rawFor (st .rows)) (node-raw st W s)
 
-pub fits-node : (st : Settings) (W : List ℕ) (s : ℕ) → Held st W → length (rowsAt st W s) ≤ 2 * st .order
+pub fits-node : (st : Settings) (W : List ℕ) (s : ℕ) → Held st W → length (rowsAt st W s) ≤ st .rows
 fits-node st W s h = rw (node-raw st W s) at (h .each s .fits)
 
 -- the slot of a node holds it
-pub node-back : (order : ℕ) (n : Node) → nodeOf (rawFor order n) ≡ n
+pub node-back : (m : ℕ) (n : Node) → nodeOf (rawFor m n) ≡ n
 unfolding nodeOf rawFor
-node-back order n =
+node-back m n =
     let l = n .rows in
-    let e : take (length l) (pad (2 * order) l) ≡ l = take-pad (2 * order) (length l) l (omega arith) ∙ take-length l in
+    let e : take (length l) (pad (m) l) ≡ l = take-pad (m) (length l) l (omega arith) ∙ take-length l in
     λ j. record { kind = n .kind; rows = e j }
 
-pub canon-for : (order : ℕ) (n : Node) → length (n .rows) ≤ 2 * order → Canon order (rawFor order n)
-canon-for order n h = record { fits = rw (node-back order n) h; same = ap (rawFor order) (sym (node-back order n)) }
+pub canon-for : (m : ℕ) (n : Node) → length (n .rows) ≤ m → Canon m (rawFor m n)
+canon-for m n h = record { fits = rw (node-back m n) h; same = ap (rawFor m) (sym (node-back m n)) }
 
 -- ---- what is read
 
@@ -62,7 +62,7 @@ pub count-node : (st : Settings) (W : List ℕ) (s : ℕ) → Held st W → rawA
 unfolding rawFor
 count-node st W s h = ap (λ (r : Raw). r .count) (raw-node st W s h)
 
-pub cells-node : (st : Settings) (W : List ℕ) (s : ℕ) → Held st W → rawAt st W s .cells ≡ pad (2 * st .order) (rowsAt st W s)
+pub cells-node : (st : Settings) (W : List ℕ) (s : ℕ) → Held st W → rawAt st W s .cells ≡ pad (st .rows) (rowsAt st W s)
 unfolding rawFor
 cells-node st W s h = ap (λ (r : Raw). r .cells) (raw-node st W s h)
 
@@ -71,12 +71,12 @@ pub row-node : (st : Settings) (W : List ℕ) (s i : ℕ) → Held st W → i < 
 unfolding pad
 row-node st W s i h g =
     let l = rowsAt st W s in
-    ap (λ (r : List Row). getD r i blank) (cells-node st W s h) ∙ List·getD-append l (replicate (2 * st .order - length l) blank) blank i g
+    ap (λ (r : List Row). getD r i blank) (cells-node st W s h) ∙ List·getD-append l (replicate (st .rows - length l) blank) blank i g
 
 pub part-node : (st : Settings) (W : List ℕ) (s from a : ℕ) → Held st W → from + a ≤ length (rowsAt st W s)
     → part (rawAt st W s .cells) from a ≡ part (rowsAt st W s) from a
 part-node st W s from a h g =
-    ap (λ (l : List Row). part l from a) (cells-node st W s h) ∙ part-pad (2 * st .order) from a (rowsAt st W s) g
+    ap (λ (l : List Row). part l from a) (cells-node st W s h) ∙ part-pad (st .rows) from a (rowsAt st W s) g
 
 -- ---- a slot written
 
@@ -84,13 +84,13 @@ module _ (st : Settings) (W₀ W : List ℕ) (s : ℕ) (r : Raw) (e : slots st W
   raw-same : s < st .nodes → rawAt st W s ≡ r
   unfolding rawAt
   raw-same h =
-      let none = rawOf (st .order) [] in
+      let none = rawOf (st .rows) [] in
       ap (λ (l : List Raw). getD l s none) e ∙ getD-set-same (slots st W₀) s r none (omega (arith, length-slots st W₀))
 
   pub raw-other : (t : ℕ) → t ≢ s → rawAt st W t ≡ rawAt st W₀ t
   unfolding rawAt
   raw-other t ne =
-      let none = rawOf (st .order) [] in
+      let none = rawOf (st .rows) [] in
       ap (λ (l : List Raw). getD l t none) e ∙ getD-set-other (slots st W₀) s t r none ne
 
 -- a slot that is written twice is written once
@@ -104,21 +104,21 @@ again f st W₀ W₁ W₂ s r h a b = record {
 }
 
 each-again : (st : Settings) (W₀ W : List ℕ) (s : ℕ) (n : Node) → s < st .nodes → Held st W₀
-    → slots st W ≡ set (slots st W₀) s (rawFor (st .order) n) → length (n .rows) ≤ 2 * st .order → (t : ℕ) → Dec (t ≡ s) → Canon (st .order) (rawAt st W t)
+    → slots st W ≡ set (slots st W₀) s (rawFor (st .rows) n) → length (n .rows) ≤ st .rows → (t : ℕ) → Dec (t ≡ s) → Canon (st .rows) (rawAt st W t)
 each-again st W₀ W s n h held e g t (yes q) =
-    rw (ap (rawAt st W) q ∙ raw-same st W₀ W s (rawFor (st .order) n) e h) (canon-for (st .order) n g)
-each-again st W₀ W s n h held e g t (no q) = rw (raw-other st W₀ W s (rawFor (st .order) n) e t q) (held .each t)
+    rw (ap (rawAt st W) q ∙ raw-same st W₀ W s (rawFor (st .rows) n) e h) (canon-for (st .rows) n g)
+each-again st W₀ W s n h held e g t (no q) = rw (raw-other st W₀ W s (rawFor (st .rows) n) e t q) (held .each t)
 
 -- a slot that is written as a node is written is that node
 pub settle : (st : Settings) (W₀ W : List ℕ) (s : ℕ) (r : Raw) (n : Node) → s < st .nodes → Held st W₀ → Wrote st W₀ W (set (slots st W₀) s r)
-    → r ≡ rawFor (st .order) n → length (n .rows) ≤ 2 * st .order → Now st W₀ W (set (nodes st W₀) s n)
+    → r ≡ rawFor (st .rows) n → length (n .rows) ≤ st .rows → Now st W₀ W (set (nodes st W₀) s n)
 unfolding nodes
 settle st W₀ W s r n h held w q g =
-    let raw = rawFor (st .order) n in
-    let e : slots st W ≡ set (slots st W₀) s (rawFor (st .order) n) = w .is ∙ ap (set (slots st W₀) s) q in
+    let raw = rawFor (st .rows) n in
+    let e : slots st W ≡ set (slots st W₀) s (rawFor (st .rows) n) = w .is ∙ ap (set (slots st W₀) s) q in
     record {
       held = record { shape = w .shape; each = λ t. each-again st W₀ W s n h held e g t (ℕ-discrete t s) };
-      is = ap (map nodeOf) e ∙ map-set nodeOf (slots st W₀) s raw ∙ ap (set (map nodeOf (slots st W₀)) s) (node-back (st .order) n);
+      is = ap (map nodeOf) e ∙ map-set nodeOf (slots st W₀) s raw ∙ ap (set (map nodeOf (slots st W₀)) s) (node-back (st .rows) n);
       header = w .header;
     }
 
@@ -129,20 +129,20 @@ abbrev rewritten : Settings → List ℕ → ℕ → ℕ → ℕ → List Row �
 rewritten st W s k c l = set (slots st W) s (record { kind = k; count = c; cells = l })
 
 module _ (st : Settings) (W₀ W : List ℕ) (s k n : ℕ) (h : s < st .nodes) (held : Held st W₀) (ek : k ≡ nth (nodes st W₀) s .kind) (en : n ≡ length (rowsAt st W₀ s)) where
-  rows-now : (cells : List Row) (c : ℕ) (l : List Row) → Wrote st W₀ W (rewritten st W₀ s k c cells) → cells ≡ pad (2 * st .order) l → c ≡ length l
-      → c ≤ 2 * st .order → Now st W₀ W (putRows (nodes st W₀) s l)
+  rows-now : (cells : List Row) (c : ℕ) (l : List Row) → Wrote st W₀ W (rewritten st W₀ s k c cells) → cells ≡ pad (st .rows) l → c ≡ length l
+      → c ≤ st .rows → Now st W₀ W (putRows (nodes st W₀) s l)
   unfolding putRows rawFor
   rows-now cells c l w e ec g =
       settle st W₀ W s (record { kind = k; count = c; cells = cells }) (record { kind = nth (nodes st W₀) s .kind; rows = l }) h held w
       (λ j. record { kind = ek j; count = ec j; cells = e j }) (omega arith)
 
   -- a gap is opened and filled
-  pub opened-now : (i a : ℕ) (new : List Row) → i ≤ n → length new ≡ a → n + a ≤ 2 * st .order
+  pub opened-now : (i a : ℕ) (new : List Row) → i ≤ n → length new ≡ a → n + a ≤ st .rows
       → Wrote st W₀ W (rewritten st W₀ s k (n + a) (opening n (rawAt st W₀ s .cells) i a new)) → Now st W₀ W (putRows (nodes st W₀) s (putIn (rowsAt st W₀ s) i new))
   opened-now i a new hi ea g w =
       let l = rowsAt st W₀ s in
       rows-now (opening n (rawAt st W₀ s .cells) i a new) (n + a) (putIn l i new) w
-      (ap (λ (r : List Row). opening n r i a new) (cells-node st W₀ s held) ∙ opened (2 * st .order) i a n l new en hi ea g)
+      (ap (λ (r : List Row). opening n r i a new) (cells-node st W₀ s held) ∙ opened (st .rows) i a n l new en hi ea g)
       (omega (arith, length-putIn l i new (omega arith))) g
 
   -- rows are taken out
@@ -150,9 +150,9 @@ module _ (st : Settings) (W₀ W : List ℕ) (s k n : ℕ) (h : s < st .nodes) (
       → Wrote st W₀ W (rewritten st W₀ s k (n - a) (closing n (rawAt st W₀ s .cells) i a)) → Now st W₀ W (putRows (nodes st W₀) s (without (rowsAt st W₀ s) i a))
   closed-now i a hi w =
       let l = rowsAt st W₀ s in
-      let fits : length (rowsAt st W₀ s) ≤ 2 * st .order = fits-node st W₀ s held in
+      let fits : length (rowsAt st W₀ s) ≤ st .rows = fits-node st W₀ s held in
       rows-now (closing n (rawAt st W₀ s .cells) i a) (n - a) (without l i a) w
-      (ap (λ (r : List Row). closing n r i a) (cells-node st W₀ s held) ∙ closed (2 * st .order) i a n l en hi (omega arith))
+      (ap (λ (r : List Row). closing n r i a) (cells-node st W₀ s held) ∙ closed (st .rows) i a n l en hi (omega arith))
       (omega (arith, length-without l i a (omega arith))) (omega arith)
 
   -- the kind is set
@@ -169,11 +169,11 @@ module _ (st : Settings) (W₀ W : List ℕ) (s k n : ℕ) (h : s < st .nodes) (
   row-now i r hi w =
       let q = rawAt st W₀ s in
       let l = rowsAt st W₀ s in
-      let fits : length (rowsAt st W₀ s) ≤ 2 * st .order = fits-node st W₀ s held in
+      let fits : length (rowsAt st W₀ s) ≤ st .rows = fits-node st W₀ s held in
       let size : length (set (rowsAt st W₀ s) i r) ≡ length (rowsAt st W₀ s) = length-set l i r in
       let count : q .count ≡ length (set l i r) = count-node st W₀ s held ∙ sym size in
-      let cells : over (q .cells) i 1 (r ∷ []) ≡ pad (2 * st .order) (set l i r) =
-      ap (λ (m : List Row). over m i 1 (r ∷ [])) (cells-node st W₀ s held) ∙ replaced (2 * st .order) i l r (omega arith) fits in
+      let cells : over (q .cells) i 1 (r ∷ []) ≡ pad (st .rows) (set l i r) =
+      ap (λ (m : List Row). over m i 1 (r ∷ [])) (cells-node st W₀ s held) ∙ replaced (st .rows) i l r (omega arith) fits in
       settle st W₀ W s (record { kind = q .kind; count = q .count; cells = over (q .cells) i 1 (r ∷ []) })
       (record { kind = nth (nodes st W₀) s .kind; rows = set l i r }) h held w
       (λ j. record { kind = kind-node st W₀ s j; count = count j; cells = cells j }) (omega arith)

@@ -13,7 +13,7 @@ use Rattle.slots.proofs.Nodes.{again, opened-now, closed-now}
 module _ (st : Settings) (W₀ W₁ W₂ W : List ℕ) (s k n : ℕ) (h : s < st .nodes) (held : Held st W₀) (ek : k ≡ nth (nodes st W₀) s .kind)
     (en : n ≡ length (rowsAt st W₀ s)) where
   -- the rows from i on moved up, the gap filled, and counted
-  pub opened-by : (i a : ℕ) (new : List Row) → i ≤ n → length new ≡ a → n + a ≤ 2 * st .order
+  pub opened-by : (i a : ℕ) (new : List Row) → i ≤ n → length new ≡ a → n + a ≤ st .rows
       → Wrote st W₀ W₁ (putCells st W₀ s (over (rawAt st W₀ s .cells) (i + a) (n - i) (part (rawAt st W₀ s .cells) i (n - i))))
       → Wrote st W₁ W₂ (putCells st W₁ s (over (rawAt st W₁ s .cells) i a new)) → Wrote st W₂ W (putHead st W₂ s k (n + a))
       → Now st W₀ W (putRows (nodes st W₀) s (putIn (rowsAt st W₀ s) i new))

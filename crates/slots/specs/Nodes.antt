@@ -6,7 +6,7 @@ use mathlib.Core.List.{List, [], _++_, map}
 use lib.ListN.{length, take, drop, getD, set, replicate}
 use Rattle.model.specs.declared.Settings.{Settings}
 use Rattle.slots_raw.specs.declared.Row.{Row}
-use Rattle.slots_raw.specs.Slots.{blank, Raw, slots, rawAt, Shape}
+use Rattle.slots_raw.specs.Slots.{blank, headIn, Raw, slots, rawAt, Shape}
 
 -- ---- nodes
 
@@ -41,19 +41,19 @@ rowsAt st W s = nth (nodes st W) s .rows
 unfoldable pub pad : ℕ → List Row → List Row
 pad m l = l ++ replicate (m - length l) blank
 
--- the slot that holds a node
+-- the slot that holds a node, with room for m rows
 unfoldable pub rawFor : ℕ → Node → Raw
-rawFor order n = record { kind = n .kind; count = length (n .rows); cells = pad (2 * order) (n .rows) }
+rawFor m n = record { kind = n .kind; count = length (n .rows); cells = pad m (n .rows) }
 
 -- a slot holds its node and nothing else
-pub record Canon (order : ℕ) (r : Raw) : Type 0 where
-  pub fits : length (nodeOf r .rows) ≤ 2 * order
-  pub same : r ≡ rawFor order (nodeOf r)
+pub record Canon (m : ℕ) (r : Raw) : Type 0 where
+  pub fits : length (nodeOf r .rows) ≤ m
+  pub same : r ≡ rawFor m (nodeOf r)
 
 -- every slot of a pool does
 pub record Held (st : Settings) (W : List ℕ) : Type 0 where
   pub shape : Shape st W
-  pub each : (s : ℕ) → Canon (st .order) (rawAt st W s)
+  pub each : (s : ℕ) → Canon (st .rows) (rawAt st W s)
 
 -- ---- one node changed
 
@@ -126,7 +126,7 @@ pub record Room (st : Settings) (W : List ℕ) (s i n : ℕ) : Type 0 where
   pub held : Held st W
   pub slot : s < st .nodes
   pub within : i ≤ length (rowsAt st W s)
-  pub room : length (rowsAt st W s) + n ≤ 2 * st .order
+  pub room : length (rowsAt st W s) + n ≤ st .rows
 
 -- n rows of node s from row `from` on can go to place i of node t
 pub record Pass (st : Settings) (W : List ℕ) (s from t i n : ℕ) : Type 0 where
@@ -136,7 +136,7 @@ pub record Pass (st : Settings) (W : List ℕ) (s from t i n : ℕ) : Type 0 whe
   pub apart : s ≢ t
   pub has : from + n ≤ length (rowsAt st W s)
   pub within : i ≤ length (rowsAt st W t)
-  pub room : length (rowsAt st W t) + n ≤ 2 * st .order
+  pub room : length (rowsAt st W t) + n ≤ st .rows
 
 -- node s can be split into an unused slot
 pub record Split (st : Settings) (W : List ℕ) (s new : ℕ) : Type 0 where
@@ -153,17 +153,17 @@ pub record Give (st : Settings) (W : List ℕ) (s t a : ℕ) : Type 0 where
   pub slot2 : t < st .nodes
   pub apart : s ≢ t
   pub has : a ≤ length (rowsAt st W s)
-  pub room : length (rowsAt st W t) + a ≤ 2 * st .order
+  pub room : length (rowsAt st W t) + a ≤ st .rows
 
 -- ---- what contracts ensure
 
 -- r is the number of rows of node s
 pub record Counted (st : Settings) (W : List ℕ) (s r : ℕ) : Type 0 where
   pub is : r ≡ length (rowsAt st W s)
-  pub fits : r ≤ 2 * st .order
+  pub fits : r ≤ st .rows
 
 -- W is W₀ with the nodes `ns`
 pub record Now (st : Settings) (W₀ W : List ℕ) (ns : List Node) : Type 0 where
   pub held : Held st W
   pub is : nodes st W ≡ ns
-  pub header : take 4 W ≡ take 4 W₀
+  pub header : headIn W ≡ headIn W₀

@@ -1,5 +1,5 @@
--- From words to nodes and back: a pool in order is its header and the image of its nodes, and a header with the image of some nodes is a pool in
--- order that holds these nodes. Assumes nothing.
+-- From words to nodes and back: a pool in m is its header and the image of its nodes, and a header with the image of some nodes is a pool in
+-- m that holds these nodes. Assumes nothing.
 use mathlib.Core.Path.{_≡_, refl, sym, ap, _∙_}
 use Prim.Native.Nat.{ℕ, zero, suc, _+_, _*_, _≤_, _<_}
 use native.Mathlib.Nat.{suc-mul, zero-mul}
@@ -9,10 +9,11 @@ use lib.ListN.{length, take, drop, getD, length-append, length-drop, take-append
 use lib.Seq.{length-take-le, take-at, drop-at}
 use Rattle.words.specs.Words.{words}
 use Rattle.words.proofs.Laws.{Bytes, words-injective, nil-of-length}
+use Rattle.model.specs.declared.PoolSettings.{PoolSettings}
 use Rattle.model.specs.declared.Settings.{Settings}
-use Rattle.model.specs.Sound.{InLimits}
+use Rattle.model.specs.Sound.{handed, InLimits}
 use Rattle.slots_raw.specs.declared.Row.{Row}
-use Rattle.slots_raw.specs.Slots.{chunks, rowsOf, width, Raw, rawOf, slots, rawAt}
+use Rattle.slots_raw.specs.Slots.{chunks, rowsOf, width, headLen, headIn, Raw, rawOf, slots, rawAt}
 use Rattle.slots.specs.Nodes.{Node, unused, nodeOf, nodes, nth, pad, rawFor, Canon, Held}
 use Rattle.slots_pool.specs.Header.{headerOf}
 use Rattle.slots_pool.specs.Image.{flatRows, block, image}
@@ -30,42 +31,42 @@ flat-rows (suc n) (x ∷ []) e = absurd (omega arith)
 flat-rows (suc n) (x ∷ y ∷ []) e = absurd (omega arith)
 flat-rows (suc n) (x ∷ y ∷ z ∷ l) e = ap (λ (r : List ℕ). x ∷ y ∷ z ∷ r) (flat-rows n l (omega arith))
 
-pub block-back : (order : ℕ) (b : List ℕ) → length b ≡ width order → block (rawOf order b) ≡ b
+pub block-back : (m : ℕ) (b : List ℕ) → length b ≡ width m → block (rawOf m b) ≡ b
 unfolding block rawOf
-block-back order [] e = absurd (omega arith)
-block-back order (x ∷ []) e = absurd (omega arith)
-block-back order (x ∷ y ∷ b) e = ap (λ (r : List ℕ). x ∷ y ∷ r) (flat-rows (2 * order) b (omega arith))
+block-back m [] e = absurd (omega arith)
+block-back m (x ∷ []) e = absurd (omega arith)
+block-back m (x ∷ y ∷ b) e = ap (λ (r : List ℕ). x ∷ y ∷ r) (flat-rows (m) b (omega arith))
 
-image-chunks : (order n : ℕ) (l : List ℕ) → length l ≡ n * width order
-    → ((s : ℕ) → Canon order (getD (map (rawOf order) (chunks (width order) n l)) s (rawOf order [])))
-    → image order (map nodeOf (map (rawOf order) (chunks (width order) n l))) ≡ l
+image-chunks : (m n : ℕ) (l : List ℕ) → length l ≡ n * width m
+    → ((s : ℕ) → Canon m (getD (map (rawOf m) (chunks (width m) n l)) s (rawOf m [])))
+    → image m (map nodeOf (map (rawOf m) (chunks (width m) n l))) ≡ l
 unfolding image chunks
-image-chunks order zero l e h = sym (nil-of-length l (e ∙ zero-mul (width order)))
-image-chunks order (suc n) l e h =
-    let S = width order in
+image-chunks m zero l e h = sym (nil-of-length l (e ∙ zero-mul (width m)))
+image-chunks m (suc n) l e h =
+    let S = width m in
     let b = take S l in
-    let long : width order ≤ length l = omega (arith, suc-mul n (width order)) in
-    let first : block (rawFor order (nodeOf (rawOf order (take (width order) l)))) ≡ take (width order) l =
-    ap block (sym (h zero .same)) ∙ block-back order b (length-take-le S l long) in
-    let rest : image order (map nodeOf (map (rawOf order) (chunks (width order) n (drop (width order) l)))) ≡ drop (width order) l =
-    image-chunks order n (drop S l) (length-drop S l ∙ omega (arith, suc-mul n (width order))) (λ s. h (suc s)) in
+    let long : width m ≤ length l = omega (arith, suc-mul n (width m)) in
+    let first : block (rawFor m (nodeOf (rawOf m (take (width m) l)))) ≡ take (width m) l =
+    ap block (sym (h zero .same)) ∙ block-back m b (length-take-le S l long) in
+    let rest : image m (map nodeOf (map (rawOf m) (chunks (width m) n (drop (width m) l)))) ≡ drop (width m) l =
+    image-chunks m n (drop S l) (length-drop S l ∙ omega (arith, suc-mul n (width m))) (λ s. h (suc s)) in
     rw (first, rest, take-append-drop)
 
 -- the words are the header and the image of the nodes
-pub image-of : (st : Settings) (W : List ℕ) → Held st W → take 4 W ++ image (st .order) (nodes st W) ≡ W
+pub image-of : (st : Settings) (W : List ℕ) → Held st W → headIn W ++ image (st .rows) (nodes st W) ≡ W
 unfolding nodes slots rawAt
 image-of st W h =
-    let size : length W ≡ 4 + st .nodes * width (st .order) = h .shape .size in
-    ap (take 4 W ++_) (image-chunks (st .order) (st .nodes) (drop 4 W) (length-drop 4 W ∙ omega arith) (h .each)) ∙ take-append-drop 4 W
+    let size : length W ≡ headLen + st .nodes * width (st .rows) = h .shape .size in
+    ap (headIn W ++_) (image-chunks (st .rows) (st .nodes) (drop headLen W) (length-drop headLen W ∙ omega arith) (h .each)) ∙ take-append-drop headLen W
 
 -- two pools with one header and the same nodes have the same words, and so the same bytes
-pub words-same : (st : Settings) (W X : List ℕ) → Held st W → Held st X → take 4 W ≡ take 4 X → nodes st W ≡ nodes st X → W ≡ X
+pub words-same : (st : Settings) (W X : List ℕ) → Held st W → Held st X → headIn W ≡ headIn X → nodes st W ≡ nodes st X → W ≡ X
 words-same st W X h g e n =
     sym (image-of st W h)
-    ∙ ap (λ (l : List ℕ). l ++ image (st .order) (nodes st W)) e ∙ ap (λ (ns : List Node). take 4 X ++ image (st .order) ns) n ∙ image-of st X g
+    ∙ ap (λ (l : List ℕ). l ++ image (st .rows) (nodes st W)) e ∙ ap (λ (ns : List Node). headIn X ++ image (st .rows) ns) n ∙ image-of st X g
 
 pub bytes-same : (st : Settings) (k : ℕ) (a b : List ℕ) → length a ≡ 8 * k → length b ≡ 8 * k → Bytes a → Bytes b → Held st (words a) → Held st (words b)
-    → take 4 (words a) ≡ take 4 (words b) → nodes st (words a) ≡ nodes st (words b) → a ≡ b
+    → headIn (words a) ≡ headIn (words b) → nodes st (words a) ≡ nodes st (words b) → a ≡ b
 bytes-same st k a b ea eb ha hb h g e n = words-injective k a b ea eb ha hb (words-same st (words a) (words b) h g e n)
 
 -- ---- nodes, words, and the same nodes
@@ -80,77 +81,83 @@ unfolding flatRows rowsOf chunks
 rows-back [] = refl
 rows-back (r ∷ l) = ap (r ∷_) (rows-back l)
 
-module _ (order : ℕ) (n : Node) (fits : length (n .rows) ≤ 2 * order) where
-  pub length-block : length (block (rawFor order n)) ≡ width order
+module _ (m : ℕ) (n : Node) (fits : length (n .rows) ≤ m) where
+  pub length-block : length (block (rawFor m n)) ≡ width m
   unfolding block rawFor
-  length-block = omega (arith, length-flat (pad (2 * order) (n .rows)), length-pad (2 * order) (n .rows) fits)
+  length-block = omega (arith, length-flat (pad (m) (n .rows)), length-pad (m) (n .rows) fits)
 
   -- the slot of a node is read as it was written
-  pub raw-back : rawOf order (block (rawFor order n)) ≡ rawFor order n
+  pub raw-back : rawOf m (block (rawFor m n)) ≡ rawFor m n
   unfolding block rawFor rawOf
   raw-back =
-      let l = pad (2 * order) (n .rows) in
-      let cells : rowsOf (2 * order) (flatRows l) ≡ l =
-      ap (λ (m : ℕ). rowsOf m (flatRows l)) (sym (length-pad (2 * order) (n .rows) fits)) ∙ rows-back l in
+      let l = pad (m) (n .rows) in
+      let cells : rowsOf (m) (flatRows l) ≡ l =
+      ap (λ (m : ℕ). rowsOf m (flatRows l)) (sym (length-pad (m) (n .rows) fits)) ∙ rows-back l in
       λ j. record { kind = n .kind; count = length (n .rows); cells = cells j }
 
--- each node has at most 2 * order rows
+-- each node has at most m rows
 abbrev pub Fit : ℕ → List Node → Type 0
-Fit order ns = (s : ℕ) → s < length ns → length (nth ns s .rows) ≤ 2 * order
+Fit m ns = (s : ℕ) → s < length ns → length (nth ns s .rows) ≤ m
 
-fit-head : (order : ℕ) (n : Node) (ns : List Node) → Fit order (n ∷ ns) → length (n .rows) ≤ 2 * order
-fit-head order n ns f = f zero (omega arith)
+fit-head : (m : ℕ) (n : Node) (ns : List Node) → Fit m (n ∷ ns) → length (n .rows) ≤ m
+fit-head m n ns f = f zero (omega arith)
 
-fit-tail : (order : ℕ) (n : Node) (ns : List Node) → Fit order (n ∷ ns) → Fit order ns
-fit-tail order n ns f s h = f (suc s) (omega arith)
+fit-tail : (m : ℕ) (n : Node) (ns : List Node) → Fit m (n ∷ ns) → Fit m ns
+fit-tail m n ns f s h = f (suc s) (omega arith)
 
-length-image : (order : ℕ) (ns : List Node) → Fit order ns → length (image order ns) ≡ length ns * width order
+length-image : (m : ℕ) (ns : List Node) → Fit m ns → length (image m ns) ≡ length ns * width m
 unfolding image
-length-image order [] f = omega arith
-length-image order (n ∷ ns) f =
-    length-append (block (rawFor order n)) (image order ns)
-    ∙ omega (arith, length-block order n (fit-head order n ns f), length-image order ns (fit-tail order n ns f), suc-mul (length ns) (width order))
+length-image m [] f = omega arith
+length-image m (n ∷ ns) f =
+    length-append (block (rawFor m n)) (image m ns)
+    ∙ omega (arith, length-block m n (fit-head m n ns f), length-image m ns (fit-tail m n ns f), suc-mul (length ns) (width m))
 
-image-slots : (order : ℕ) (ns : List Node) → Fit order ns → map (rawOf order) (chunks (width order) (length ns) (image order ns)) ≡ map (rawFor order) ns
+image-slots : (m : ℕ) (ns : List Node) → Fit m ns → map (rawOf m) (chunks (width m) (length ns) (image m ns)) ≡ map (rawFor m) ns
 unfolding image chunks
-image-slots order [] f = refl
-image-slots order (n ∷ ns) f =
-    let S = width order in
-    let b = block (rawFor order n) in
-    let one = fit-head order n ns f in
-    let first : take S (b ++ image order ns) ≡ b = take-at b (image order ns) S (length-block order n one) in
-    let rest : drop S (b ++ image order ns) ≡ image order ns = drop-at b (image order ns) S (length-block order n one) in
-    rw (first, rest, raw-back order n one, image-slots order ns (fit-tail order n ns f))
+image-slots m [] f = refl
+image-slots m (n ∷ ns) f =
+    let S = width m in
+    let b = block (rawFor m n) in
+    let one = fit-head m n ns f in
+    let first : take S (b ++ image m ns) ≡ b = take-at b (image m ns) S (length-block m n one) in
+    let rest : drop S (b ++ image m ns) ≡ image m ns = drop-at b (image m ns) S (length-block m n one) in
+    rw (first, rest, raw-back m n one, image-slots m ns (fit-tail m n ns f))
 
-nodes-back : (order : ℕ) (ns : List Node) → map nodeOf (map (rawFor order) ns) ≡ ns
-nodes-back order [] = refl
-nodes-back order (n ∷ ns) = rw (node-back order n, nodes-back order ns)
+nodes-back : (m : ℕ) (ns : List Node) → map nodeOf (map (rawFor m) ns) ≡ ns
+nodes-back m [] = refl
+nodes-back m (n ∷ ns) = rw (node-back m n, nodes-back m ns)
 
-module _ (st : Settings) (H : List ℕ) (ns : List Node) (limits : InLimits st) (four : length H ≡ 4) (all : length ns ≡ st .nodes) (fit : Fit (st .order) ns) where
-  slots-of : slots st (H ++ image (st .order) ns) ≡ map (rawFor (st .order)) ns
+module _ (st : Settings) (H : List ℕ) (ns : List Node) (limits : InLimits st) (roomy : 2 * st .order ≤ st .rows) (most : st .rows ≤ 64) (four : length H ≡ headLen) (all : length ns ≡ st .nodes) (fit : Fit (st .rows) ns) where
+  slots-of : slots st (H ++ image (st .rows) ns) ≡ map (rawFor (st .rows)) ns
   unfolding slots
   slots-of =
-      ap (λ (l : List ℕ). map (rawOf (st .order)) (chunks (width (st .order)) (st .nodes) l)) (drop-at H (image (st .order) ns) 4 four)
-      ∙ ap (λ (m : ℕ). map (rawOf (st .order)) (chunks (width (st .order)) m (image (st .order) ns))) (sym all) ∙ image-slots (st .order) ns fit
+      ap (λ (l : List ℕ). map (rawOf (st .rows)) (chunks (width (st .rows)) (st .nodes) l)) (drop-at H (image (st .rows) ns) headLen four)
+      ∙ ap (λ (m : ℕ). map (rawOf (st .rows)) (chunks (width (st .rows)) m (image (st .rows) ns))) (sym all) ∙ image-slots (st .rows) ns fit
 
-  raw-of : (s : ℕ) → rawAt st (H ++ image (st .order) ns) s ≡ rawFor (st .order) (nth ns s)
+  raw-of : (s : ℕ) → rawAt st (H ++ image (st .rows) ns) s ≡ rawFor (st .rows) (nth ns s)
   unfolding rawAt
   raw-of s =
-      ap (λ (l : List Raw). getD l s (rawOf (st .order) [])) slots-of
-      ∙ ap (getD (map (rawFor (st .order)) ns) s) (raw-empty (st .order)) ∙ List·getD-map (rawFor (st .order)) ns s unused
+      ap (λ (l : List Raw). getD l s (rawOf (st .rows) [])) slots-of
+      ∙ ap (getD (map (rawFor (st .rows)) ns) s) (raw-empty (st .rows)) ∙ List·getD-map (rawFor (st .rows)) ns s unused
 
-  -- four words and the image of some nodes are a pool in order that holds them
-  pub image-held : Held st (H ++ image (st .order) ns)
+  -- as many words as a header has, and the image of some nodes, are a pool in m that holds them
+  pub image-held : Held st (H ++ image (st .rows) ns)
   image-held =
-      held-each st (H ++ image (st .order) ns)
-      (record { limits = limits; size = length-append H (image (st .order) ns) ∙ omega (arith, length-image (st .order) ns fit, ap (_* width (st .order)) all) })
-      (λ s h. rw (raw-of s) (canon-for (st .order) (nth ns s) (fit s (omega arith))))
+      held-each st (H ++ image (st .rows) ns)
+      (record { limits = limits; roomy = roomy; most = most; size = length-append H (image (st .rows) ns) ∙ omega (arith, length-image (st .rows) ns fit, ap (_* width (st .rows)) all) })
+      (λ s h. rw (raw-of s) (canon-for (st .rows) (nth ns s) (fit s (omega arith))))
 
-  pub image-is : nodes st (H ++ image (st .order) ns) ≡ ns
+  pub image-is : nodes st (H ++ image (st .rows) ns) ≡ ns
   unfolding nodes
-  image-is = ap (map nodeOf) slots-of ∙ nodes-back (st .order) ns
+  image-is = ap (map nodeOf) slots-of ∙ nodes-back (st .rows) ns
 
 -- a header and the image of some nodes
-pub image-nodes : (st : Settings) (ns : List Node) → InLimits st → length ns ≡ st .nodes → Fit (st .order) ns
-    → Held st (headerOf st ++ image (st .order) ns) × (nodes st (headerOf st ++ image (st .order) ns) ≡ ns)
-image-nodes st ns limits all fit = (image-held st (headerOf st) ns limits refl all fit, image-is st (headerOf st) ns limits refl all fit)
+pub image-nodes : (given : PoolSettings) (ns : List Node) → let st = handed given in InLimits st → length ns ≡ st .nodes → Fit (st .rows) ns
+    → Held st (headerOf given ++ image (st .rows) ns) × (nodes st (headerOf given ++ image (st .rows) ns) ≡ ns)
+image-nodes given ns limits all fit =
+    let st : Settings = handed given in
+    let roomy : 2 * st .order ≤ st .rows = omega arith in
+    let most : st .rows ≤ 64 = omega (arith, limits .narrow) in (
+      image-held st (headerOf given) ns limits roomy most refl all fit,
+      image-is st (headerOf given) ns limits roomy most refl all fit,
+    )

@@ -51,24 +51,24 @@ flat-blank (suc n) =
     let e : suc n * 3 ≡ suc (suc (suc (n * 3))) = omega arith in
     rw e (ap (λ (l : List ℕ). 0 ∷ 0 ∷ 0 ∷ l) (flat-blank n))
 
-pub block-unused : (order : ℕ) → block (rawFor order unused) ≡ replicate (width order) 0
+pub block-unused : (m : ℕ) → block (rawFor m unused) ≡ replicate (width m) 0
 unfolding block rawFor pad
-block-unused order =
-    let e : 2 + 6 * order ≡ suc (suc (2 * order * 3)) = omega arith in
-    rw e (ap (λ (l : List ℕ). 0 ∷ 0 ∷ l) (ap (λ (n : ℕ). flatRows (replicate n blank)) (sub-zero (2 * order)) ∙ flat-blank (2 * order)))
+block-unused m =
+    let e : width m ≡ suc (suc (m * 3)) = omega arith in
+    rw e (ap (λ (l : List ℕ). 0 ∷ 0 ∷ l) (ap (λ (n : ℕ). flatRows (replicate n blank)) (sub-zero (m)) ∙ flat-blank (m)))
 
-raw-zeros : (order : ℕ) → rawOf order (replicate (width order) 0) ≡ rawFor order unused
-raw-zeros order = ap (rawOf order) (sym (block-unused order)) ∙ raw-back order unused (omega arith)
+raw-zeros : (m : ℕ) → rawOf m (replicate (width m) 0) ≡ rawFor m unused
+raw-zeros m = ap (rawOf m) (sym (block-unused m)) ∙ raw-back m unused (omega arith)
 
 -- ---- the two tests
 
 module _ (st : Settings) (W : List ℕ) (s b : ℕ) (sh : Shape st W) (h : s < st .nodes) (at : Base st W s b) where
   -- the rows from row n on
-  pub tail-tells : (n : ℕ) → n ≤ 2 * st .order
-      → Tells (allZero (take ((2 * st .order - n) * 3) (drop (b + (2 + n * 3)) W))) (drop n (rawAt st W s .cells) ≡ replicate (2 * st .order - n) blank)
+  pub tail-tells : (n : ℕ) → n ≤ st .rows
+      → Tells (allZero (take ((st .rows - n) * 3) (drop (b + (2 + n * 3)) W))) (drop n (rawAt st W s .cells) ≡ replicate (st .rows - n) blank)
   unfolding part
   tail-tells n g =
-      let k = 2 * st .order - n in
+      let k = st .rows - n in
       let l = part W (b + (2 + n * 3)) (k * 3) in
       let size : length l ≡ k * 3 = length-part W (b + (2 + n * 3)) (k * 3) (omega arith) in
       let rows : rowsOf k l ≡ drop n (rawAt st W s .cells) =
@@ -76,12 +76,12 @@ module _ (st : Settings) (W : List ℕ) (s b : ℕ) (sh : Shape st W) (h : s < s
       tells l (k * 3) size (λ z. sym rows ∙ ap (rowsOf k) z ∙ zero-rows k) (λ a. sym (flat-rows k l size) ∙ ap flatRows (rows ∙ a) ∙ flat-blank k)
 
   -- the whole slot
-  pub slot-tells : Tells (allZero (take (width (st .order)) (drop b W))) (rawAt st W s ≡ rawFor (st .order) unused)
+  pub slot-tells : Tells (allZero (take (width (st .rows)) (drop b W))) (rawAt st W s ≡ rawFor (st .rows) unused)
   unfolding part
   slot-tells =
-      let order = st .order in
-      let l = part W b (width order) in
-      let size : length l ≡ width order = length-part W b (width order) (at .inside) in
-      let raw : rawAt st W s ≡ rawOf order l = raw-words st W s sh h b (at .start) in
-      tells l (width order) size (λ z. raw ∙ ap (rawOf order) z ∙ raw-zeros order)
-      (λ a. sym (block-back order l size) ∙ ap block (sym raw ∙ a) ∙ block-unused order)
+      let m = st .rows in
+      let l = part W b (width m) in
+      let size : length l ≡ width m = length-part W b (width m) (at .inside) in
+      let raw : rawAt st W s ≡ rawOf m l = raw-words st W s sh h b (at .start) in
+      tells l (width m) size (λ z. raw ∙ ap (rawOf m) z ∙ raw-zeros m)
+      (λ a. sym (block-back m l size) ∙ ap block (sym raw ∙ a) ∙ block-unused m)

@@ -1,13 +1,20 @@
--- The header: the first four words of a pool. Assumes nothing.
+-- The header: the number of the layout, and the settings that the pool was opened with. Assumes nothing.
 use Prim.Native.Nat.{ℕ}
 use mathlib.Core.List.{List, [], _∷_}
 use lib.ListN.{getD}
-use Rattle.model.specs.declared.Settings.{Settings}
+use Rattle.model.specs.declared.PoolSettings.{PoolSettings}
 
--- the layout number, and the settings: 1 is the layout that `Slots` describes
-abbrev pub headerOf : Settings → List ℕ
-headerOf st = 1 ∷ st .nodes ∷ st .order ∷ st .minimum ∷ []
+-- the number of the layout that is described here
+abbrev pub layoutNumber : ℕ
+layoutNumber = 1
+
+abbrev pub headerOf : PoolSettings → List ℕ
+headerOf given = layoutNumber ∷ given .nodes ∷ given .order ∷ given .minimum ∷ []
+
+-- the layout that some words say
+abbrev pub layoutOf : List ℕ → ℕ
+layoutOf W = getD W 0 0
 
 -- the settings that some words say
-abbrev pub settingsOf : List ℕ → Settings
+abbrev pub settingsOf : List ℕ → PoolSettings
 settingsOf W = record { nodes = getD W 1 0; order = getD W 2 0; minimum = getD W 3 0 }

@@ -15,10 +15,10 @@ flatRows (r ∷ l) = r .key ∷ r .body ∷ r .size ∷ flatRows l
 unfoldable pub block : Raw → List ℕ
 block r = r .kind ∷ r .count ∷ flatRows (r .cells)
 
--- the words of some nodes, slot after slot
+-- the words of some nodes, slot after slot, each with room for m rows
 unfoldable pub image : ℕ → List Node → List ℕ
-image order [] = []
-image order (n ∷ ns) = block (rawFor order n) ++ image order ns
+image m [] = []
+image m (n ∷ ns) = block (rawFor m n) ++ image m ns
 
 -- the n nodes of a pool that was just opened: an empty leaf in slot 0, and every other slot unused
 abbrev pub newNodes : ℕ → List Node

@@ -11,16 +11,16 @@ use Rattle.words.proofs.Laws.{stores, stores-sets}
 use Rattle.model.specs.declared.Settings.{Settings}
 use Rattle.slots_raw.specs.declared.Row.{Row}
 use Rattle.slots_raw.specs.Over.{over, part}
-use Rattle.slots_raw.specs.Slots.{chunks, rowOf, rowsOf, blank, Raw, rawOf, width, slots, rawAt, withCells, withHead, putCells, putHead, Shape, Cells, Base, Wrote}
+use Rattle.slots_raw.specs.Slots.{chunks, rowOf, rowsOf, blank, Raw, rawOf, width, headLen, slots, rawAt, withCells, withHead, putCells, putHead, Shape, Cells, Base, Wrote}
 use Rattle.slots_raw.proofs.Over.{length-part, length-over, drop-over, take-over, getD-over, getD-part, part-inside, part-drop, map-over, map-part, map-set}
 use Rattle.slots_raw.proofs.Chunks.{chunks-over, chunks-part, getD-chunks, piece-over, piece-room}
 
 -- where slot s starts
-pub base-of : (st : Settings) (W : List ℕ) (s : ℕ) → Shape st W → s < st .nodes → Base st W s (4 + s * width (st .order))
+pub base-of : (st : Settings) (W : List ℕ) (s : ℕ) → Shape st W → s < st .nodes → Base st W s (headLen + s * width (st .rows))
 base-of st W s sh h = record {
   start = refl;
-  inside = omega (arith, suc-mul s (width (st .order)), mul-le-mul-right (width (st .order)) h);
-  small = omega (arith, mul-le-mul {n₁ = st .nodes} {m₁ = width (st .order)} {n₂ = 16384} {m₂ = 194} (sh .limits .bounded) (omega arith));
+  inside = omega (arith, suc-mul s (width (st .rows)), mul-le-mul-right (width (st .rows)) h);
+  small = omega (arith, mul-le-mul {n₁ = st .nodes} {m₁ = width (st .rows)} {n₂ = 16384} {m₂ = 194} (sh .limits .bounded) (omega (arith, sh .most)));
 }
 
 -- words stored one by one are a run replaced
@@ -43,112 +43,112 @@ zero-rows (suc n) =
 -- ---- the words of one slot
 
 -- rows are replaced
-rows-within : (order : ℕ) (b : List ℕ) (i n : ℕ) (new : List ℕ) → length b ≡ width order → i + n ≤ 2 * order → length new ≡ n * 3
-    → rawOf order (over b (2 + i * 3) (n * 3) new) ≡ withCells (rawOf order b) (over (rawOf order b .cells) i n (rowsOf n new))
+rows-within : (rows : ℕ) (b : List ℕ) (i n : ℕ) (new : List ℕ) → length b ≡ width rows → i + n ≤ rows → length new ≡ n * 3
+    → rawOf rows (over b (2 + i * 3) (n * 3) new) ≡ withCells (rawOf rows b) (over (rawOf rows b .cells) i n (rowsOf n new))
 unfolding rawOf rowsOf
-rows-within order b i n new e h k =
+rows-within rows b i n new e h k =
     let long : 2 ≤ length b = omega arith in
     let kind : getD (over b (2 + i * 3) (n * 3) new) 0 0 ≡ getD b 0 0 = getD-over b 2 (i * 3) (n * 3) new 0 0 long (omega arith) in
     let count : getD (over b (2 + i * 3) (n * 3) new) 1 0 ≡ getD b 1 0 = getD-over b 2 (i * 3) (n * 3) new 1 0 long (omega arith) in
-    let cells : map rowOf (chunks 3 (2 * order) (drop 2 (over b (2 + i * 3) (n * 3) new))) ≡ over (map rowOf (chunks 3 (2 * order) (drop 2 b))) i n (map rowOf (chunks 3 n new)) =
-    ap (λ (l : List ℕ). map rowOf (chunks 3 (2 * order) l)) (drop-over b 2 (i * 3) (n * 3) new long)
-    ∙ ap (map rowOf) (chunks-over 3 i n (2 * order) (drop 2 b) h (omega (arith, length-drop 2 b)) new k)
-    ∙ map-over rowOf (chunks 3 (2 * order) (drop 2 b)) i n (chunks 3 n new) in
+    let cells : map rowOf (chunks 3 (rows) (drop 2 (over b (2 + i * 3) (n * 3) new))) ≡ over (map rowOf (chunks 3 (rows) (drop 2 b))) i n (map rowOf (chunks 3 n new)) =
+    ap (λ (l : List ℕ). map rowOf (chunks 3 (rows) l)) (drop-over b 2 (i * 3) (n * 3) new long)
+    ∙ ap (map rowOf) (chunks-over 3 i n (rows) (drop 2 b) h (omega (arith, length-drop 2 b)) new k)
+    ∙ map-over rowOf (chunks 3 (rows) (drop 2 b)) i n (chunks 3 n new) in
     λ j. record { kind = kind j; count = count j; cells = cells j }
 
 -- and read
-rows-read : (order : ℕ) (b : List ℕ) (i n : ℕ) → length b ≡ width order → i + n ≤ 2 * order
-    → rowsOf n (part (drop 2 b) (i * 3) (n * 3)) ≡ part (rawOf order b .cells) i n
+rows-read : (rows : ℕ) (b : List ℕ) (i n : ℕ) → length b ≡ width rows → i + n ≤ rows
+    → rowsOf n (part (drop 2 b) (i * 3) (n * 3)) ≡ part (rawOf rows b .cells) i n
 unfolding rowsOf rawOf
-rows-read order b i n e g =
-    ap (map rowOf) (chunks-part 3 i n (2 * order) (drop 2 b) g (omega (arith, length-drop 2 b))) ∙ map-part rowOf (chunks 3 (2 * order) (drop 2 b)) i n
+rows-read rows b i n e g =
+    ap (map rowOf) (chunks-part 3 i n (rows) (drop 2 b) g (omega (arith, length-drop 2 b))) ∙ map-part rowOf (chunks 3 (rows) (drop 2 b)) i n
 
 -- kind and count are replaced
-headed : (order : ℕ) (b : List ℕ) (k c : ℕ) → rawOf order (over b 0 2 (k ∷ c ∷ [])) ≡ withHead (rawOf order b) k c
+headed : (rows : ℕ) (b : List ℕ) (k c : ℕ) → rawOf rows (over b 0 2 (k ∷ c ∷ [])) ≡ withHead (rawOf rows b) k c
 unfolding rawOf over
-headed order b k c = refl
+headed rows b k c = refl
 
 -- ---- slot s of a pool
 
 module _ (st : Settings) (W : List ℕ) (s : ℕ) (sh : Shape st W) (h : s < st .nodes) where
   -- its words
   block : List ℕ
-  block = getD (chunks (width (st .order)) (st .nodes) (drop 4 W)) s []
+  block = getD (chunks (width (st .rows)) (st .nodes) (drop headLen W)) s []
 
-  rest : st .nodes * width (st .order) ≤ length (drop 4 W)
-  rest = omega (arith, length-drop 4 W)
+  rest : st .nodes * width (st .rows) ≤ length (drop headLen W)
+  rest = omega (arith, length-drop headLen W)
 
-  room : s * width (st .order) + width (st .order) ≤ length (drop 4 W)
-  room = piece-room (width (st .order)) (st .nodes) (drop 4 W) s h rest
+  room : s * width (st .rows) + width (st .rows) ≤ length (drop headLen W)
+  room = piece-room (width (st .rows)) (st .nodes) (drop headLen W) s h rest
 
-  block-part : block ≡ part (drop 4 W) (s * width (st .order)) (width (st .order))
+  block-part : block ≡ part (drop headLen W) (s * width (st .rows)) (width (st .rows))
   unfolding block
-  block-part = getD-chunks (width (st .order)) (st .nodes) (drop 4 W) s h
+  block-part = getD-chunks (width (st .rows)) (st .nodes) (drop headLen W) s h
 
-  length-block : length block ≡ width (st .order)
-  length-block = ap length block-part ∙ length-part (drop 4 W) (s * width (st .order)) (width (st .order)) room
+  length-block : length block ≡ width (st .rows)
+  length-block = ap length block-part ∙ length-part (drop headLen W) (s * width (st .rows)) (width (st .rows)) room
 
-  raw-block : rawAt st W s ≡ rawOf (st .order) block
+  raw-block : rawAt st W s ≡ rawOf (st .rows) block
   unfolding rawAt slots block
-  raw-block = List·getD-map (rawOf (st .order)) (chunks (width (st .order)) (st .nodes) (drop 4 W)) s []
+  raw-block = List·getD-map (rawOf (st .rows)) (chunks (width (st .rows)) (st .nodes) (drop headLen W)) s []
 
   -- the slot is what its words spell
-  pub raw-words : (b : ℕ) → b ≡ 4 + s * width (st .order) → rawAt st W s ≡ rawOf (st .order) (part W b (width (st .order)))
+  pub raw-words : (b : ℕ) → b ≡ headLen + s * width (st .rows) → rawAt st W s ≡ rawOf (st .rows) (part W b (width (st .rows)))
   raw-words b e =
-      let S = width (st .order) in
-      raw-block ∙ ap (rawOf (st .order)) (block-part ∙ sym (part-drop W 4 (s * S) S) ∙ ap (λ (j : ℕ). part W j S) (sym e))
+      let S = width (st .rows) in
+      raw-block ∙ ap (rawOf (st .rows)) (block-part ∙ sym (part-drop W headLen (s * S) S) ∙ ap (λ (j : ℕ). part W j S) (sym e))
 
   -- a run of its words is replaced
-  block-over : (o n : ℕ) (new : List ℕ) → o + n ≤ width (st .order) → length new ≡ n
-      → Wrote st W (over W (4 + s * width (st .order) + o) n new) (set (slots st W) s (rawOf (st .order) (over block o n new)))
+  block-over : (o n : ℕ) (new : List ℕ) → o + n ≤ width (st .rows) → length new ≡ n
+      → Wrote st W (over W (headLen + s * width (st .rows) + o) n new) (set (slots st W) s (rawOf (st .rows) (over block o n new)))
   unfolding slots block
   block-over o n new k e =
       let b = base-of st W s sh h in
-      let S = width (st .order) in
-      let p : 4 + s * width (st .order) + o ≡ 4 + (s * width (st .order) + o) = omega arith in
-      let long : 4 ≤ length W = omega arith in
+      let S = width (st .rows) in
+      let p : headLen + s * width (st .rows) + o ≡ headLen + (s * width (st .rows) + o) = omega arith in
+      let long : headLen ≤ length W = omega arith in
       record {
-        shape = record { limits = sh .limits; size = length-over W (4 + s * S + o) n new (omega arith) e ∙ sh .size };
+        shape = record { limits = sh .limits; roomy = sh .roomy; most = sh .most; size = length-over W (headLen + s * S + o) n new (omega arith) e ∙ sh .size };
         is = ap (λ (j : ℕ). slots st (over W j n new)) p
-            ∙ ap (λ (l : List ℕ). map (rawOf (st .order)) (chunks S (st .nodes) l)) (drop-over W 4 (s * S + o) n new long)
-            ∙ ap (map (rawOf (st .order))) (piece-over S (st .nodes) (drop 4 W) s o n new h rest k e)
-            ∙ map-set (rawOf (st .order)) (chunks S (st .nodes) (drop 4 W)) s (over block o n new);
-        header = ap (λ (j : ℕ). take 4 (over W j n new)) p ∙ take-over W 4 (s * S + o) n new long;
+            ∙ ap (λ (l : List ℕ). map (rawOf (st .rows)) (chunks S (st .nodes) l)) (drop-over W headLen (s * S + o) n new long)
+            ∙ ap (map (rawOf (st .rows))) (piece-over S (st .nodes) (drop headLen W) s o n new h rest k e)
+            ∙ map-set (rawOf (st .rows)) (chunks S (st .nodes) (drop headLen W)) s (over block o n new);
+        header = ap (λ (j : ℕ). take headLen (over W j n new)) p ∙ take-over W headLen (s * S + o) n new long;
       }
 
   -- ---- what is read
 
-  word-at : (o : ℕ) → o < width (st .order) → getD block o 0 ≡ getD W (4 + s * width (st .order) + o) 0
+  word-at : (o : ℕ) → o < width (st .rows) → getD block o 0 ≡ getD W (headLen + s * width (st .rows) + o) 0
   word-at o k =
-      let S = width (st .order) in
-      let p : 4 + (s * width (st .order) + o) ≡ 4 + s * width (st .order) + o = omega arith in
+      let S = width (st .rows) in
+      let p : headLen + (s * width (st .rows) + o) ≡ headLen + s * width (st .rows) + o = omega arith in
       ap (λ (l : List ℕ). getD l o 0) block-part
-      ∙ getD-part (drop 4 W) (s * S) S o 0 k ∙ getD-drop 4 W (s * S + o) 0 ∙ ap (λ (j : ℕ). getD W j 0) p
+      ∙ getD-part (drop headLen W) (s * S) S o 0 k ∙ getD-drop headLen W (s * S + o) 0 ∙ ap (λ (j : ℕ). getD W j 0) p
 
-  pub kind-at : getD W (4 + s * width (st .order)) 0 ≡ rawAt st W s .kind
+  pub kind-at : getD W (headLen + s * width (st .rows)) 0 ≡ rawAt st W s .kind
   unfolding rawOf
   kind-at =
-      let z : 4 + s * width (st .order) + 0 ≡ 4 + s * width (st .order) = omega arith in
+      let z : headLen + s * width (st .rows) + 0 ≡ headLen + s * width (st .rows) = omega arith in
       sym (ap (λ (r : Raw). r .kind) raw-block ∙ word-at 0 (omega arith) ∙ ap (λ (j : ℕ). getD W j 0) z)
 
-  pub count-at : getD W (4 + s * width (st .order) + 1) 0 ≡ rawAt st W s .count
+  pub count-at : getD W (headLen + s * width (st .rows) + 1) 0 ≡ rawAt st W s .count
   unfolding rawOf
   count-at = sym (ap (λ (r : Raw). r .count) raw-block ∙ word-at 1 (omega arith))
 
   -- n rows from row i on
-  pub rows-part : (b i n : ℕ) → b ≡ 4 + s * width (st .order) → i + n ≤ 2 * st .order
+  pub rows-part : (b i n : ℕ) → b ≡ headLen + s * width (st .rows) → i + n ≤ st .rows
       → rowsOf n (part W (b + (2 + i * 3)) (n * 3)) ≡ part (rawAt st W s .cells) i n
   rows-part b i n eb g =
-      let S = width (st .order) in
-      let p : b + (2 + i * 3) ≡ 4 + (s * width (st .order) + (2 + i * 3)) = omega arith in
+      let S = width (st .rows) in
+      let p : b + (2 + i * 3) ≡ headLen + (s * width (st .rows) + (2 + i * 3)) = omega arith in
       let words : part W (b + (2 + i * 3)) (n * 3) ≡ part (drop 2 block) (i * 3) (n * 3) =
-      ap (λ (j : ℕ). part W j (n * 3)) p ∙ part-drop W 4 (s * S + (2 + i * 3)) (n * 3)
-      ∙ part-inside (drop 4 W) (s * S) S (2 + i * 3) (n * 3) room (omega arith)
+      ap (λ (j : ℕ). part W j (n * 3)) p ∙ part-drop W headLen (s * S + (2 + i * 3)) (n * 3)
+      ∙ part-inside (drop headLen W) (s * S) S (2 + i * 3) (n * 3) room (omega arith)
       ∙ ap (λ (l : List ℕ). part l (2 + i * 3) (n * 3)) (sym block-part) ∙ part-drop block 2 (i * 3) (n * 3) in
-      ap (rowsOf n) words ∙ rows-read (st .order) block i n length-block g ∙ ap (λ (r : Raw). part (r .cells) i n) (sym raw-block)
+      ap (rowsOf n) words ∙ rows-read (st .rows) block i n length-block g ∙ ap (λ (r : Raw). part (r .cells) i n) (sym raw-block)
 
   -- row i, word by word
-  pub row-at : (p i : ℕ) → p ≡ 4 + s * width (st .order) + (2 + i * 3) → i < 2 * st .order
+  pub row-at : (p i : ℕ) → p ≡ headLen + s * width (st .rows) + (2 + i * 3) → i < st .rows
       → record { key = getD W p 0; body = getD W (p + 1) 0; size = getD W (p + 2) 0 } ≡ getD (rawAt st W s .cells) i blank
   unfolding rowsOf chunks
   row-at p i ep g =
@@ -163,28 +163,28 @@ module _ (st : Settings) (W : List ℕ) (s : ℕ) (sh : Shape st W) (h : s < st 
       λ j. record { key = first j; body = second j; size = third j } in
       row
       ∙ ap (λ (j : ℕ). rowOf (take 3 (part W j 3))) ep
-      ∙ ap (λ (l : List Row). getD l 0 blank) (rows-part (4 + s * width (st .order)) i 1 refl (omega arith))
+      ∙ ap (λ (l : List Row). getD l 0 blank) (rows-part (headLen + s * width (st .rows)) i 1 refl (omega arith))
       ∙ getD-part (rawAt st W s .cells) i 1 0 blank (omega arith) ∙ ap (λ (j : ℕ). getD (rawAt st W s .cells) j blank) z′
 
   -- ---- what is replaced
 
-  pub head-over : (b k c : ℕ) → b ≡ 4 + s * width (st .order) → Wrote st W (over W b 2 (k ∷ c ∷ [])) (putHead st W s k c)
+  pub head-over : (b k c : ℕ) → b ≡ headLen + s * width (st .rows) → Wrote st W (over W b 2 (k ∷ c ∷ [])) (putHead st W s k c)
   head-over b k c eb =
-      let z : b ≡ 4 + s * width (st .order) + 0 = omega arith in
-      rw (z, raw-block) (rw (headed (st .order) block k c) at (block-over 0 2 (k ∷ c ∷ []) (omega arith) refl))
+      let z : b ≡ headLen + s * width (st .rows) + 0 = omega arith in
+      rw (z, raw-block) (rw (headed (st .rows) block k c) at (block-over 0 2 (k ∷ c ∷ []) (omega arith) refl))
 
   -- n rows from row i on
-  pub rows-over : (b i n : ℕ) (new : List ℕ) → b ≡ 4 + s * width (st .order) → i + n ≤ 2 * st .order → length new ≡ n * 3
+  pub rows-over : (b i n : ℕ) (new : List ℕ) → b ≡ headLen + s * width (st .rows) → i + n ≤ st .rows → length new ≡ n * 3
       → Wrote st W (over W (b + (2 + i * 3)) (n * 3) new) (putCells st W s (over (rawAt st W s .cells) i n (rowsOf n new)))
   rows-over b i n new eb g e =
-      rw (eb, raw-block) (rw (rows-within (st .order) block i n new length-block g e) at (block-over (2 + i * 3) (n * 3) new (omega arith) e))
+      rw (eb, raw-block) (rw (rows-within (st .rows) block i n new length-block g e) at (block-over (2 + i * 3) (n * 3) new (omega arith) e))
 
   -- ---- what the functions of `words` leave
 
   pub head-put : (b k c : ℕ) → Base st W s b → Wrote st W (set (set W b k) (b + 1) c) (putHead st W s k c)
   head-put b k c bs = rw (stores-over (c ∷ []) k W b (omega arith)) (head-over b k c (bs .start))
 
-  pub row-put : (b i : ℕ) (r : Row) → Base st W s b → i + 1 ≤ 2 * st .order
+  pub row-put : (b i : ℕ) (r : Row) → Base st W s b → i + 1 ≤ st .rows
       → Wrote st W (set (set (set W (b + (2 + i * 3)) (r .key)) (b + (2 + i * 3) + 1) (r .body)) (b + (2 + i * 3) + 2) (r .size))
       (putCells st W s (over (rawAt st W s .cells) i 1 (r ∷ [])))
   unfolding rowsOf chunks
@@ -192,7 +192,7 @@ module _ (st : Settings) (W : List ℕ) (s : ℕ) (sh : Shape st W) (h : s < st 
       rw (stores-over (r .body ∷ r .size ∷ []) (r .key) W (b + (2 + i * 3)) (omega arith))
       (rows-over b i 1 (r .key ∷ r .body ∷ r .size ∷ []) (bs .start) g refl)
 
-  pub rows-cleared : (b i n : ℕ) → Base st W s b → i + n ≤ 2 * st .order
+  pub rows-cleared : (b i n : ℕ) → Base st W s b → i + n ≤ st .rows
       → Wrote st W (cleared W (b + (2 + i * 3)) (n * 3)) (putCells st W s (over (rawAt st W s .cells) i n (replicate n blank)))
   unfolding cleared over
   rows-cleared b i n bs g = rw (zero-rows n) at (rows-over b i n (replicate (n * 3) 0) (bs .start) g (length-replicate (n * 3) 0))

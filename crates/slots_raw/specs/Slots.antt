@@ -1,5 +1,5 @@
--- The words of a pool as slots: four words of header, then a slot of 2 + 6 * order words for each node. A slot is a kind, a count and 2 * order rows
--- of three words. Nothing here asks that a slot makes sense. Assumes nothing.
+-- The words of a pool as slots: the header, then a slot for each node. A slot is a kind, a count, and the rows that there is room for. Nothing here asks
+-- that a slot makes sense. Assumes nothing.
 use Prim.Native.Nat.{ℕ, zero, suc, _+_, _*_, _≤_, _<_}
 use mathlib.Core.Path.{_≡_}
 use mathlib.Core.List.{List, [], _∷_, map}
@@ -8,11 +8,24 @@ use Rattle.model.specs.declared.Settings.{Settings}
 use Rattle.model.specs.Sound.{InLimits}
 use Rattle.slots_raw.specs.declared.Row.{Row}
 
--- ---- a slot
+-- ---- lengths, in words
 
--- how many words a slot has
+-- of the header, and of a row
+abbrev pub headLen : ℕ
+headLen = 4
+
+abbrev pub rowLen : ℕ
+rowLen = 3
+
+-- of a slot with room for some rows
 abbrev pub width : ℕ → ℕ
-width order = 2 + 6 * order
+width rows = 2 + rowLen * rows
+
+-- the header of a pool's words
+abbrev pub headIn : List ℕ → List ℕ
+headIn W = take headLen W
+
+-- ---- a slot
 
 -- a slot as it is stored: every row of it, those past the count too
 pub record Raw : Type 0 where
@@ -35,20 +48,20 @@ chunks S (suc n) l = take S l ∷ chunks S n (drop S l)
 
 -- the first n rows of some words
 unfoldable pub rowsOf : ℕ → List ℕ → List Row
-rowsOf n l = map rowOf (chunks 3 n l)
+rowsOf n l = map rowOf (chunks rowLen n l)
 
--- the slot that some words spell
+-- the slot that some words spell, with room for some rows
 unfoldable pub rawOf : ℕ → List ℕ → Raw
-rawOf order b = record { kind = getD b 0 0; count = getD b 1 0; cells = rowsOf (2 * order) (drop 2 b) }
+rawOf rows b = record { kind = getD b 0 0; count = getD b 1 0; cells = rowsOf rows (drop 2 b) }
 
 -- ---- the slots of a pool's words
 
 unfoldable pub slots : Settings → List ℕ → List Raw
-slots st W = map (rawOf (st .order)) (chunks (width (st .order)) (st .nodes) (drop 4 W))
+slots st W = map (rawOf (st .rows)) (chunks (width (st .rows)) (st .nodes) (drop headLen W))
 
 -- slot s; an unused one past the end
 unfoldable pub rawAt : Settings → List ℕ → ℕ → Raw
-rawAt st W s = getD (slots st W) s (rawOf (st .order) [])
+rawAt st W s = getD (slots st W) s (rawOf (st .rows) [])
 
 -- a slot with other rows, and with another kind and count
 abbrev pub withCells : Raw → List Row → Raw
@@ -66,25 +79,27 @@ putHead st W s k c = set (slots st W) s (withHead (rawAt st W s) k c)
 
 -- ---- what contracts say
 
--- the settings are in limits, and W is as long as they say
+-- the settings are in limits, a slot has room for a node that is about to be split, and W is as long as they say
 pub record Shape (st : Settings) (W : List ℕ) : Type 0 where
   pub limits : InLimits st
-  pub size : length W ≡ 4 + st .nodes * width (st .order)
+  pub roomy : 2 * st .order ≤ st .rows
+  pub most : st .rows ≤ 64
+  pub size : length W ≡ headLen + st .nodes * width (st .rows)
 
 -- n rows from i on are rows of slot s
 pub record Cells (st : Settings) (W : List ℕ) (s i n : ℕ) : Type 0 where
   pub shape : Shape st W
   pub slot : s < st .nodes
-  pub within : i + n ≤ 2 * st .order
+  pub within : i + n ≤ st .rows
 
 -- slot s starts at word b. `small` is what sums of places want
 pub record Base (st : Settings) (W : List ℕ) (s b : ℕ) : Type 0 where
-  pub start : b ≡ 4 + s * width (st .order)
-  pub inside : b + width (st .order) ≤ length W
+  pub start : b ≡ headLen + s * width (st .rows)
+  pub inside : b + width (st .rows) ≤ length W
   pub small : length W ≤ 4000000
 
 -- W is W₀ with the slots `rs`
 pub record Wrote (st : Settings) (W₀ W : List ℕ) (rs : List Raw) : Type 0 where
   pub shape : Shape st W
   pub is : slots st W ≡ rs
-  pub header : take 4 W ≡ take 4 W₀
+  pub header : headIn W ≡ headIn W₀

@@ -2,13 +2,21 @@
 // the rows past it any rows. So these functions read pools that are not known to be in order, and the
 // functions on nodes are made of them.
 ghost use mathlib.Core.Path.{_≡_};
-ghost use Prim.Native.Nat.{_-_, _*_, _<_};
+ghost use Prim.Native.Nat.{_≤_, _<_};
 ghost use mathlib.Core.List.{_∷_, []};
 ghost use lib.ListN.{getD, replicate};
 ghost use Rattle.words.specs.Words.{words};
 ghost use Rattle.slots_raw.specs.Over.{over, part};
+ghost use Rattle.slots_raw.specs.Slots as Slots;
 ghost use Rattle.slots_raw.specs.Slots.{Shape, Cells, Base, Wrote, rawAt, putCells, putHead, blank};
 use model::Settings;
+
+// How many words the header has, the head of a slot (its kind and its count), and a row.
+pub const HEADER: usize = 4;
+
+pub const HEAD: usize = 2;
+
+pub const ROW: usize = 3;
 
 // Three words. In a leaf a key, its place and its size; in an interior node a separator, a child with
 // its counts, and a sum of sizes.
@@ -41,7 +49,7 @@ pub fn raw_row(pool: &[u8], st: Settings, s: usize, i: usize) -> Row
     requires { ⌜ Cells st (words (now pool)) s i 1 ⌝ }
     ensures { λ r. ⌜ r ≡ getD (rawAt st (words (now (pool .entry))) s .cells) i blank ⌝ }
 {
-    let p = base(pool, st, s) + (2 + i * 3);
+    let p = base(pool, st, s) + (HEAD + i * ROW);
     let key = words::get(pool, p);
     let body = words::get(pool, p + 1);
     let size = words::get(pool, p + 2);
@@ -63,7 +71,7 @@ pub fn raw_put(pool: &mut [u8], st: Settings, s: usize, i: usize, row: Row)
     requires { ⌜ Cells st (words (now pool)) s i 1 ⌝ }
     ensures { λ _. let W = words (now (pool .entry)) in ⌜ Wrote st W (words (now (pool .exit))) (putCells st W s (over (rawAt st W s .cells) i 1 (row ∷ []))) ⌝ }
 {
-    let p = base(pool, st, s) + (2 + i * 3);
+    let p = base(pool, st, s) + (HEAD + i * ROW);
     words::put(pool, p, row.key);
     words::put(pool, p + 1, row.body);
     words::put(pool, p + 2, row.size);
@@ -77,7 +85,7 @@ pub fn raw_move(pool: &mut [u8], st: Settings, s: usize, from: usize, t: usize, 
 {
     let a = base(pool, st, s);
     let b = base(pool, st, t);
-    words_runs::shift(pool, a + (2 + from * 3), b + (2 + to * 3), n * 3);
+    words_runs::shift(pool, a + (HEAD + from * ROW), b + (HEAD + to * ROW), n * ROW);
 }
 
 // Makes `n` rows of slot `s`, from row `from` on, blank.
@@ -86,7 +94,7 @@ pub fn raw_clear(pool: &mut [u8], st: Settings, s: usize, from: usize, n: usize)
     ensures { λ _. let W = words (now (pool .entry)) in ⌜ Wrote st W (words (now (pool .exit))) (putCells st W s (over (rawAt st W s .cells) from n (replicate n blank))) ⌝ }
 {
     let b = base(pool, st, s);
-    words_runs::clear(pool, b + (2 + from * 3), n * 3);
+    words_runs::clear(pool, b + (HEAD + from * ROW), n * ROW);
 }
 
 // The word at which slot `s` starts. It is a function so that its contract says once, for all that read or
@@ -95,5 +103,13 @@ pub fn base(pool: &[u8], st: Settings, s: usize) -> usize
     requires { ⌜ Shape st (words (now pool)) × (s < st .nodes) ⌝ }
     ensures { λ r. ⌜ Base st (words (now (pool .entry))) s r ⌝ }
 {
-    4 + s * (2 + 6 * st.order)
+    HEADER + s * width(st)
+}
+
+// How many words a slot has.
+pub fn width(st: Settings) -> usize
+    requires { ⌜ st .rows ≤ 64 ⌝ }
+    ensures { λ r. ⌜ r ≡ Slots.width (st .rows) ⌝ }
+{
+    HEAD + ROW * st.rows
 }

@@ -9,7 +9,8 @@ use native.Mathlib.Decide.{map-dec, ℕ-discrete, decLe, decLt}
 use lib.ListN.{length, getD}
 use Rattle.words.specs.Words.{words}
 use Rattle.slots_raw.specs.declared.Row.{Row}
-use Rattle.slots_raw.specs.Slots.{width, rawAt, Shape}
+use Rattle.slots_raw.specs.Slots.{width, headLen, rawAt, Shape}
+use Rattle.slots_pool.specs.Header.{layoutNumber, layoutOf}
 use Rattle.slots.specs.Nodes.{nodes, nth}
 use Rattle.slots.specs.Nodes as S
 use Rattle.slots_raw.proofs.Raws.{base-of}
@@ -24,9 +25,9 @@ use Rattle.model.specs.Tree.{Item, Tree, len, entries, slots, total, greatestKe
 use Rattle.model.specs.Sound.{InLimits, Whole, Fits}
 use Rattle.model.proofs.Lists.{all-head, all-tail, all-every}
 use Rattle.tree.specs.Bridge.{childOf, childTotals, treeAt, unusedOf}
-use Rattle.tree.specs.Pool.{poolLen, heightAt, settingsIn, Kinds, EachChild, Separates, Totalled, SoundPool}
+use Rattle.tree.specs.Pool.{poolLen, givenIn, heightAt, settingsIn, Kinds, EachChild, Separates, Totalled, SoundPool}
 use Rattle.tree.proofs.Sums.{totals-discrete}
-use Rattle.tree.proofs.Opening.{exact-shape}
+use Rattle.tree.proofs.Pools.{exact-shape}
 use Rattle.survey.specs.Surveyed.{Headed}
 use Rattle.tree_spare.proofs.Spares.{unused-few}
 use Rattle.survey.specs.Slots.{Idle}
@@ -94,20 +95,20 @@ module _ (P : (h : ℕ) → Row → Tree h → Type 0) (f : (h : ℕ) (r : Row) 
 
 module _ (st : Settings) (W : List ℕ) (sh : Shape st W) where
   dec-tail : (s : ℕ) → Dec (Tail st W s)
-  dec-tail s = by (decLt s (st .nodes)) (decLe (rawAt st W s .count) (2 * st .order))
+  dec-tail s = by (decLt s (st .nodes)) (decLe (rawAt st W s .count) (st .rows))
     where
-      by : Dec (s < st .nodes) → Dec (rawAt st W s .count ≤ 2 * st .order) → Dec (Tail st W s)
+      by : Dec (s < st .nodes) → Dec (rawAt st W s .count ≤ st .rows) → Dec (Tail st W s)
       by (yes lt) (yes le) =
           dec-tells _ (tail-told st W s (rawAt st W s .count) _ refl le
-          (tail-tells st W s (4 + s * width (st .order)) sh lt (base-of st W s sh lt) (rawAt st W s .count) le))
-      by (yes lt) (no gt) = no (λ z. gt (canon-count (st .order) (rawAt st W s) z))
+          (tail-tells st W s (headLen + s * width (st .rows)) sh lt (base-of st W s sh lt) (rawAt st W s .count) le))
+      by (yes lt) (no gt) = no (λ z. gt (canon-count (st .rows) (rawAt st W s) z))
       by (no ge) d = yes (canon-zero st W s (past-raw st W s ge))
 
   dec-idle : (s : ℕ) → Dec (Idle st W s)
   dec-idle s = by (decLt s (st .nodes)) (ℕ-discrete (nth (nodes st W) s .kind) 0)
     where
       by : Dec (s < st .nodes) → Dec (nth (nodes st W) s .kind ≡ 0) → Dec (Idle st W s)
-      by (yes lt) (yes z) = map-dec (λ e q. e) (λ f. f z) (dec-tells _ (slot-tells st W s (4 + s * width (st .order)) sh lt (base-of st W s sh lt)))
+      by (yes lt) (yes z) = map-dec (λ e q. e) (λ f. f z) (dec-tells _ (slot-tells st W s (headLen + s * width (st .rows)) sh lt (base-of st W s sh lt)))
       by (yes lt) (no used) = yes (λ q. absurd (used q))
       by (no ge) d = yes (λ q. past-raw st W s ge)
 
@@ -157,7 +158,7 @@ module _ (st : Settings) (W : List ℕ) (sh : Shape st W) where
 
   -- the tree from the root: its height, its own nodes, and how many they are
   abbrev high : ℕ
-  high = heightAt (nodes st W) 8 0
+  high = heightAt (nodes st W) 8 (st .root)
 
   abbrev used : ℕ
   used = st .nodes - length (unusedOf (nodes st W))
@@ -166,9 +167,9 @@ module _ (st : Settings) (W : List ℕ) (sh : Shape st W) where
   counted = omega (arith, unused-few (nodes st W), length-nodes st W)
 
   dec-tree : Dec (SoundTree st W)
-  dec-tree = by (decLe high 7) (dec-right high 0 (leastRoot high) used) (ℕ-discrete (length (slots (suc high) (treeAt (nodes st W) high 0))) used)
+  dec-tree = by (decLe high 7) (dec-right high (st .root) (leastRoot high) used) (ℕ-discrete (length (slots (suc high) (treeAt (nodes st W) high (st .root)))) used)
     where
-      by : Dec (high ≤ 7) → Dec (Right st W high 0 (leastRoot high) unmet used) → Dec (length (slots (suc high) (treeAt (nodes st W) high 0)) ≡ used)
+      by : Dec (high ≤ 7) → Dec (Right st W high (st .root) (leastRoot high) unmet used) → Dec (length (slots (suc high) (treeAt (nodes st W) high (st .root))) ≡ used)
           → Dec (SoundTree st W)
       by (yes le) (yes g) (yes full) = yes (right-sound st W used counted le g full)
       by (no gt) d e = no (λ t. gt (omega (arith, t .sound .shallow)))
@@ -187,7 +188,7 @@ dec-limits st =
 dec-headed : (l : List ℕ) → Dec (Headed l)
 dec-headed l =
     map-dec (λ p. record { layout = p .0; settings = p .1 .0; exact = p .1 .1 }) (λ h. (h .layout, (h .settings, h .exact)))
-    (dec-both (ℕ-discrete (getD (words l) 0 0) 1) (dec-both (dec-limits (settingsIn l)) (ℕ-discrete (length l) (poolLen (settingsIn l)))))
+    (dec-both (ℕ-discrete (layoutOf (words l)) layoutNumber) (dec-both (dec-limits (settingsIn l)) (ℕ-discrete (length l) (poolLen (givenIn l)))))
 
 -- any bytes are a sound pool, or are not
 pub sound-decided : (l : List ℕ) → Dec (SoundPool l)
@@ -201,5 +202,5 @@ sound-decided l = by (dec-headed l)
     by : Dec (Headed l) → Dec (SoundPool l)
     by (no wrong) = no (λ s. wrong (pool-headed l s))
     by (yes h) =
-        let sh : Shape (settingsIn l) (words l) = exact-shape (settingsIn l) l (h .settings) (h .exact) in
+        let sh : Shape (settingsIn l) (words l) = exact-shape (givenIn l) l (h .settings) (h .exact) in
         rest h (dec-all-idle (settingsIn l) (words l) sh) (dec-tree (settingsIn l) (words l) sh)

@@ -55,7 +55,7 @@ module _ (st : Settings) (W : List ℕ) where
         let e : suc (s - 1) ≡ s = omega arith in
         drop-cons (nodes st W) (s - 1) unused (omega (arith, length-nodes st W, g .within)) ∙ ap (λ (j : ℕ). nth (nodes st W) (s - 1) ∷ drop j (nodes st W)) e
 
-    pub swept-unused : rawAt st W (s - 1) .kind ≡ 0 → rawAt st W (s - 1) ≡ rawFor (st .order) unused → Swept st W (free + 1) (s - 1) (s - 1)
+    pub swept-unused : rawAt st W (s - 1) .kind ≡ 0 → rawAt st W (s - 1) ≡ rawFor (st .rows) unused → Swept st W (free + 1) (s - 1) (s - 1)
     swept-unused k z =
         let kind : nth (nodes st W) (s - 1) .kind ≡ 0 = sym (kind-node st W (s - 1)) ∙ k in
         let e : suc (s - 1) ≡ s = omega arith in

@@ -54,27 +54,27 @@ root-some st (suc h) t r = r .0
 
 -- EACH SLOT ONCE
 
-root-once : (st : Settings) (W : List ℕ) (h used : ℕ) → h ≤ 7 → Right st W h 0 (leastRoot h) unmet used → (x : ℕ)
-    → times x (slots (suc h) (treeAt (nodes st W) h 0)) ≤ 1
-root-once st W zero used le g x = omega (arith, hit-most x 0, slots-leaf x (treeAt (nodes st W) zero 0 .items))
+root-once : (st : Settings) (W : List ℕ) (h used : ℕ) → h ≤ 7 → Right st W h (st .root) (leastRoot h) unmet used → (x : ℕ)
+    → times x (slots (suc h) (treeAt (nodes st W) h (st .root))) ≤ 1
+root-once st W zero used le g x = omega (arith, hit-most x (st .root), slots-leaf x (treeAt (nodes st W) zero (st .root) .items))
 root-once st W (suc h) used le g x =
-    let whole : Whole st (suc (suc h)) (treeAt (nodes st W) (suc h) 0) = (record { some = omega (arith, g .some); few = g .few }, g .whole) in
-    slots-once st (nodes st W) x (suc h) 0 (omega arith) (g .kinds) whole (g .sorted)
+    let whole : Whole st (suc (suc h)) (treeAt (nodes st W) (suc h) (st .root)) = (record { some = omega (arith, g .some); few = g .few }, g .whole) in
+    slots-once st (nodes st W) x (suc h) (st .root) (omega arith) (g .kinds) whole (g .sorted)
 
 module _ (st : Settings) (W : List ℕ) (h used : ℕ) (counted : used + length (unusedOf (nodes st W)) ≡ st .nodes) (le : h ≤ 7)
-    (g : Right st W h 0 (leastRoot h) unmet used) (full : length (slots (suc h) (treeAt (nodes st W) h 0)) ≡ used) where
+    (g : Right st W h (st .root) (leastRoot h) unmet used) (full : length (slots (suc h) (treeAt (nodes st W) h (st .root))) ≡ used) where
   abbrev ns : List S.Node
   ns = nodes st W
 
   abbrev reached : List ℕ
-  reached = slots (suc h) (treeAt ns h 0)
+  reached = slots (suc h) (treeAt ns h (st .root))
 
   abbrev both : List ℕ
   both = reached ++ unusedOf ns
 
   -- a slot that is reached is in use
   in-use : (x : ℕ) → 0 < times x reached → (nth ns x .kind ≡ 0 → ⊥)
-  in-use x some = used-tree ns h (treeAt ns h 0) (read-holds ns h 0 (g .kinds) (g .separators) (g .totals)) x some
+  in-use x some = used-tree ns h (treeAt ns h (st .root)) (read-holds ns h (st .root) (g .kinds) (g .separators) (g .totals)) x some
 
   both-apart : (x : ℕ) → times x both ≤ 1
   both-apart x = by (decLt 0 (times x reached))
@@ -107,12 +107,12 @@ module _ (st : Settings) (W : List ℕ) (h used : ℕ) (counted : used + length 
 
 module _ (st : Settings) (W : List ℕ) (used : ℕ) (counted : used + length (unusedOf (nodes st W)) ≡ st .nodes) where
   abbrev high : ℕ
-  high = heightAt (nodes st W) 8 0
+  high = heightAt (nodes st W) 8 (st .root)
 
   abbrev root-tree : Tree high
-  root-tree = treeAt (nodes st W) high 0
+  root-tree = treeAt (nodes st W) high (st .root)
 
-  pub right-sound : high ≤ 7 → Right st W high 0 (leastRoot high) unmet used → length (slots (suc high) root-tree) ≡ used → SoundTree st W
+  pub right-sound : high ≤ 7 → Right st W high (st .root) (leastRoot high) unmet used → length (slots (suc high) root-tree) ≡ used → SoundTree st W
   right-sound le g full =
       record {
         sound = record {
@@ -130,9 +130,9 @@ module _ (st : Settings) (W : List ℕ) (used : ℕ) (counted : used + length (u
       }
 
   pub sound-full : SoundTree st W → length (slots (suc high) root-tree) ≡ used
-  sound-full s = omega (arith, once-count (st .nodes) (slotsOf (indexIn (nodes st W))) (unusedOf (nodes st W)) (s .sound .once), counted)
+  sound-full s = omega (arith, once-count (st .nodes) (slotsOf (indexIn (st .root) (nodes st W))) (unusedOf (nodes st W)) (s .sound .once), counted)
 
-  pub sound-right : SoundTree st W → Right st W high 0 (leastRoot high) unmet used
+  pub sound-right : SoundTree st W → Right st W high (st .root) (leastRoot high) unmet used
   sound-right s =
       let n : SoundNodes st (nodes st W) = s .sound in
       record {
@@ -141,7 +141,7 @@ module _ (st : Settings) (W : List ℕ) (used : ℕ) (counted : used + length (u
         few = root-few st high root-tree (n .rooted);
         whole = n .whole;
         sorted = n .sorted;
-        beyond = all-every (entriesOf (indexIn (nodes st W))) (λ e q. absurd (true≢false (sym q)));
+        beyond = all-every (entriesOf (indexIn (st .root) (nodes st W))) (λ e q. absurd (true≢false (sym q)));
         fit = n .fit;
         separators = n .separators;
         totals = n .totals;
@@ -150,9 +150,9 @@ module _ (st : Settings) (W : List ℕ) (used : ℕ) (counted : used + length (u
       }
 
   -- what the walk from the root found
-  module _ (h : ℕ) (root : Part) (edge : h ≡ high) (chk : Checked st W h 0 (leastRoot h) unmet used root) where
-    at-high : Checked st W high 0 (leastRoot high) unmet used root
-    at-high = subst (λ (g : ℕ). Checked st W g 0 (leastRoot g) unmet used root) edge chk
+  module _ (h : ℕ) (root : Part) (edge : h ≡ high) (chk : Checked st W h (st .root) (leastRoot h) unmet used root) where
+    at-high : Checked st W high (st .root) (leastRoot high) unmet used root
+    at-high = subst (λ (g : ℕ). Checked st W g (st .root) (leastRoot g) unmet used root) edge chk
 
     pub verdict-fault : root .ok ≡ false → SoundTree st W → ⊥
     verdict-fault e s = true≢false (sym (at-high .ok .told (sound-right s)) ∙ e)
@@ -164,11 +164,11 @@ module _ (st : Settings) (W : List ℕ) (used : ℕ) (counted : used + length (u
           told = λ s. eq-eqb (root .left) 0 (omega (arith, at-high .rest e, sound-full s));
         }
 
-pub verdict-deep : (st : Settings) (W : List ℕ) (h : ℕ) → h ≡ heightAt (nodes st W) 8 0 → 7 < h → SoundTree st W → ⊥
+pub verdict-deep : (st : Settings) (W : List ℕ) (h : ℕ) → h ≡ heightAt (nodes st W) 8 (st .root) → 7 < h → SoundTree st W → ⊥
 verdict-deep st W h e lt s = omega (arith, s .sound .shallow)
 
-pub verdict-there : (st : Settings) (W : List ℕ) (h : ℕ) → h ≡ heightAt (nodes st W) 8 0 → SoundTree st W → There st W h 0
-verdict-there st W h e s = rw e (kinds-there st W (heightAt (nodes st W) 8 0) 0 (s .sound .kinds))
+pub verdict-there : (st : Settings) (W : List ℕ) (h : ℕ) → h ≡ heightAt (nodes st W) 8 (st .root) → SoundTree st W → There st W h (st .root)
+verdict-there st W h e s = rw e (kinds-there st W (heightAt (nodes st W) 8 (st .root)) (st .root) (s .sound .kinds))
 
 -- THE SURVEY
 
@@ -192,10 +192,10 @@ all-zeros st W idle t s = by (ℕ-discrete (nth (nodes st W) s .kind) 0)
     by (yes z) = record { tail = canon-zero st W s (idle s z); whole = λ q. zero-unused st W s (idle s z) }
     by (no used) = record { tail = times-all (Tail st W) (t .tails) s reached; whole = λ q. absurd (used q) }
       where
-        reached : 0 < times s (slotsOf (indexIn (nodes st W)))
+        reached : 0 < times s (slotsOf (indexIn (st .root) (nodes st W)))
         reached =
             let lt : s < st .nodes = omega (arith, used-in (nodes st W) s used, length-nodes st W) in
-            let one : times s (slotsOf (indexIn (nodes st W))) + times s (unusedOf (nodes st W)) ≡ 1 = t .sound .once s ∙ rw (lt-ltb s (st .nodes) lt) refl in
+            let one : times s (slotsOf (indexIn (st .root) (nodes st W))) + times s (unusedOf (nodes st W)) ≡ 1 = t .sound .once s ∙ rw (lt-ltb s (st .nodes) lt) refl in
             omega (arith, used-none (nodes st W) s used)
 
 pub sound-pool : (l : List ℕ) → Headed l → ((s : ℕ) → Idle (settingsIn l) (words l) s) → SoundTree (settingsIn l) (words l) → SoundPool l
@@ -209,7 +209,7 @@ pool-headed l s = record { layout = s .layout; settings = s .settings; exact = s
 pub pool-idle : (l : List ℕ) → SoundPool l → (s : ℕ) → Idle (settingsIn l) (words l) s
 pool-idle l p s z =
     let st : Settings = settingsIn l in
-    p .zeros s .tail .same ∙ ap (rawFor (st .order)) (node-raw st (words l) s ∙ p .zeros s .whole z)
+    p .zeros s .tail .same ∙ ap (rawFor (st .rows)) (node-raw st (words l) s ∙ p .zeros s .whole z)
 
 pub pool-tree : (l : List ℕ) → SoundPool l → SoundTree (settingsIn l) (words l)
 pool-tree l p = record { sound = p .nodes; tails = all-every (slotsOf (indexOf l)) (λ s. p .zeros s .tail) }

@@ -12,7 +12,7 @@ use Rattle.survey.specs.declared.spares.Spares.{Spares}
 
 -- an unused slot has nothing but zeros
 abbrev pub Idle : Settings → List ℕ → ℕ → Type 0
-Idle st W s = nth (nodes st W) s .kind ≡ 0 → rawAt st W s ≡ rawFor (st .order) unused
+Idle st W s = nth (nodes st W) s .kind ≡ 0 → rawAt st W s ≡ rawFor (st .rows) unused
 
 -- r tells whether every unused slot is so; if so, which they are
 pub record SlotsTold (st : Settings) (W : List ℕ) (r : Spares) : Type 0 where

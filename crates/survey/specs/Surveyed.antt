@@ -3,11 +3,12 @@ use Prim.Native.Nat.{ℕ}
 use mathlib.Core.Path.{_≡_}
 use mathlib.Core.Bool.{true, false}
 use mathlib.Core.List.{List}
-use lib.ListN.{length, getD}
+use lib.ListN.{length}
 use Rattle.words.specs.Words.{words}
 use Rattle.model.specs.Answer.{Tells}
 use Rattle.model.specs.Sound.{InLimits}
-use Rattle.tree.specs.Pool.{poolLen, settingsIn, nodesIn, indexOf, SoundPool}
+use Rattle.slots_pool.specs.Header.{layoutNumber, layoutOf}
+use Rattle.tree.specs.Pool.{poolLen, givenIn, settingsIn, nodesIn, indexOf, SoundPool}
 use Rattle.tree_spare.specs.Spared.{Spared}
 use Rattle.survey.specs.declared.Findings.{Findings}
 
@@ -16,7 +17,7 @@ abbrev pub unsound : Findings
 unsound =
     record {
       sound = false;
-      settings = record { nodes = 0; order = 0; minimum = 0 };
+      settings = record { nodes = 0; order = 0; minimum = 0; rows = 0; root = 0 };
       height = 0;
       spare = record { low = 0; unused = 0 };
     }
@@ -32,6 +33,6 @@ pub record Surveyed (l : List ℕ) (r : Findings) : Type 0 where
 
 -- what the header and the length say of a sound pool
 pub record Headed (l : List ℕ) : Type 0 where
-  pub layout : getD (words l) 0 0 ≡ 1
+  pub layout : layoutOf (words l) ≡ layoutNumber
   pub settings : InLimits (settingsIn l)
-  pub exact : length l ≡ poolLen (settingsIn l)
+  pub exact : length l ≡ poolLen (givenIn l)

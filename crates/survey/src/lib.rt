@@ -39,7 +39,8 @@ pub fn survey(pool: &[u8]) -> Findings
     if !header_right(pool) {
         return nothing();
     }
-    let st = slots_pool::settings(pool);
+    let given = slots_pool::settings(pool);
+    let st = model::handed(given);
     let spares = survey_slots(pool, st);
     if !spares.ok {
         return nothing();
@@ -61,17 +62,17 @@ pub fn survey(pool: &[u8]) -> Findings
 fn header_right(pool: &[u8]) -> bool
     ensures { λ r. ⌜ Tells r (Headed (now (pool .entry))) ⌝ }
 {
-    if pool.len() < 32 {
+    if pool.len() < 8 * slots_raw::HEADER {
         return false;
     }
     if slots_pool::layout(pool) != slots_pool::LAYOUT {
         return false;
     }
-    let st = slots_pool::settings(pool);
-    if !tree::in_limits(st) {
+    let given = slots_pool::settings(pool);
+    if !tree::in_limits(given) {
         return false;
     }
-    pool.len() == tree::pool_len(st)
+    pool.len() == tree::pool_len(given)
 }
 
 fn nothing() -> Findings
@@ -83,6 +84,8 @@ fn nothing() -> Findings
             nodes: 0,
             order: 0,
             minimum: 0,
+            rows: 0,
+            root: 0,
         },
         height: 0,
         spare: Spare { low: 0, unused: 0 },

@@ -26,10 +26,10 @@ use survey_node::there;
 // How many interiors there are down the left edge, at most 8. What is right about them the walk will tell.
 pub fn left_edge(pool: &[u8], st: Settings) -> usize
     requires { ⌜ Shape st (words (now pool)) ⌝ }
-    ensures { λ r. ⌜ r ≡ heightAt (nodes st (words (now (pool .entry)))) 8 0 ⌝ }
+    ensures { λ r. ⌜ r ≡ heightAt (nodes st (words (now (pool .entry)))) 8 (st .root) ⌝ }
 {
     let mut height = 0;
-    let mut s = 0;
+    let mut s = st.root;
     while height < 8 {
         if st.nodes <= s {
             return height;
@@ -63,11 +63,11 @@ pub fn tree_right(pool: &[u8], st: Settings, height: usize, used: usize) -> bool
     if 7 < height {
         return false;
     }
-    if !there(pool, st, height, 0) {
+    if !there(pool, st, height, st.root) {
         return false;
     }
     let least = least_root(height);
-    let root = check_node(pool, st, height, 0, least, false, 0, used);
+    let root = check_node(pool, st, height, st.root, least, false, 0, used);
     if !root.ok {
         return false;
     }

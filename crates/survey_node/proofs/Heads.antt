@@ -2,12 +2,12 @@
 use mathlib.Core.Path.{_≡_, refl, sym, ap, _∙_, subst}
 use mathlib.Core.Bool.{Bool}
 use mathlib.Core.List.{List, [], _∷_}
-use Prim.Native.Nat.{ℕ, _-_, _*_, _≤_, _<_, min}
+use Prim.Native.Nat.{ℕ, _-_, _≤_, _<_, min}
 use native.Mathlib.Omega.{arith}
 use lib.ListN.{length, take, drop, getD, replicate, length-take}
 use lib.Seq.{getD-take}
 use Rattle.slots_raw.specs.declared.Row.{Row}
-use Rattle.slots_raw.specs.Slots.{blank, rawAt}
+use Rattle.slots_raw.specs.Slots.{blank, rawAt, Shape}
 use Rattle.slots.specs.Nodes.{nodeOf, rowsAt}
 use Rattle.slots.specs.Nodes as S
 use Rattle.slots.proofs.Nodes.{node-raw}
@@ -24,7 +24,7 @@ module _ (st : Settings) (W : List ℕ) (s : ℕ) where
   rows-raw = sym (ap (λ (n : S.Node). n .rows) (node-raw st W s))
 
   -- how many they are
-  pub rows-count : length (rowsAt st W s) ≡ min (rawAt st W s .count) (2 * st .order)
+  pub rows-count : length (rowsAt st W s) ≡ min (rawAt st W s .count) (st .rows)
   rows-count =
       ap length rows-raw ∙ length-take (rawAt st W s .count) (rawAt st W s .cells) ∙ ap (min (rawAt st W s .count)) (length-cells st W s)
 
@@ -40,22 +40,22 @@ first-some : (rs : List Row) → 0 < length rs → firstChild rs ≡ childOf (ge
 first-some [] h = absurd (omega arith)
 first-some (r ∷ rs) h = refl
 
-pub first-raw : (st : Settings) (W : List ℕ) (s : ℕ) → 4 ≤ st .order → 0 < rawAt st W s .count
+pub first-raw : (st : Settings) (W : List ℕ) (s : ℕ) → Shape st W → 0 < rawAt st W s .count
     → childOf (getD (rawAt st W s .cells) 0 blank) ≡ firstChild (rowsAt st W s)
-first-raw st W s wide some =
-    ap childOf (row-raw st W s 0 some) ∙ sym (first-some (rowsAt st W s) (omega (arith, rows-count st W s)))
+first-raw st W s sh some =
+    ap childOf (row-raw st W s 0 some) ∙ sym (first-some (rowsAt st W s) (omega (arith, rows-count st W s, sh .limits .wide, sh .roomy)))
 
 -- a count of at most order is the number of rows
-pub head-count : (st : Settings) (W : List ℕ) (s : ℕ) → 4 ≤ st .order → length (rowsAt st W s) ≤ st .order → rawAt st W s .count ≡ length (rowsAt st W s)
-head-count st W s wide few = omega (arith, rows-count st W s)
+pub head-count : (st : Settings) (W : List ℕ) (s : ℕ) → Shape st W → length (rowsAt st W s) ≤ st .order → rawAt st W s .count ≡ length (rowsAt st W s)
+head-count st W s sh few = omega (arith, rows-count st W s, sh .limits .wide, sh .roomy)
 
 -- the test of the rows past the count tells of the tail
-pub tail-told : (st : Settings) (W : List ℕ) (s n : ℕ) (r : Bool) → n ≡ rawAt st W s .count → n ≤ 2 * st .order
-    → Tells r (drop n (rawAt st W s .cells) ≡ replicate (2 * st .order - n) blank) → Tells r (Tail st W s)
+pub tail-told : (st : Settings) (W : List ℕ) (s n : ℕ) (r : Bool) → n ≡ rawAt st W s .count → n ≤ st .rows
+    → Tells r (drop n (rawAt st W s .cells) ≡ replicate (st .rows - n) blank) → Tells r (Tail st W s)
 tail-told st W s n r e le t =
-    let now : Tells r (drop (rawAt st W s .count) (rawAt st W s .cells) ≡ replicate (2 * st .order - rawAt st W s .count) blank) =
-    subst (λ (k : ℕ). Tells r (drop k (rawAt st W s .cells) ≡ replicate (2 * st .order - k) blank)) e t in
+    let now : Tells r (drop (rawAt st W s .count) (rawAt st W s .cells) ≡ replicate (st .rows - rawAt st W s .count) blank) =
+    subst (λ (k : ℕ). Tells r (drop k (rawAt st W s .cells) ≡ replicate (st .rows - k) blank)) e t in
     record {
       holds = λ q. canon-tail st W s (omega arith) (now .holds q);
-      told = λ z. now .told (canon-blank (st .order) (rawAt st W s) z);
+      told = λ z. now .told (canon-blank (st .rows) (rawAt st W s) z);
     }

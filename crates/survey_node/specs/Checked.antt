@@ -65,7 +65,7 @@ pub record Opened (st : Settings) (W : List ℕ) (h s least left : ℕ) : Type 0
 
 -- nothing but zeros is past the rows of slot s
 abbrev pub Tail : Settings → List ℕ → ℕ → Type 0
-Tail st W s = Canon (st .order) (rawAt st W s)
+Tail st W s = Canon (st .rows) (rawAt st W s)
 
 -- the tree of height h in slot s is as in a sound pool, its keys are above p, and it has at most `left` nodes
 pub record Right (st : Settings) (W : List ℕ) (h s least : ℕ) (p : Last) (left : ℕ) : Type 0 where
@@ -117,10 +117,10 @@ leastRoot (suc h) = 2
 
 -- what the walk is handed: the height down the left edge, and how many nodes are in use
 pub record Known (st : Settings) (W : List ℕ) (h n : ℕ) : Type 0 where
-  pub height : h ≡ heightAt (nodes st W) 8 0
+  pub height : h ≡ heightAt (nodes st W) 8 (st .root)
   pub used : n + length (unusedOf (nodes st W)) ≡ st .nodes
 
 -- what it tells: the nodes are sound, and each that is reached has zeros past its rows
 pub record SoundTree (st : Settings) (W : List ℕ) : Type 0 where
   pub sound : SoundNodes st (nodes st W)
-  pub tails : All (Tail st W) (slotsOf (indexIn (nodes st W)))
+  pub tails : All (Tail st W) (slotsOf (indexIn (st .root) (nodes st W)))

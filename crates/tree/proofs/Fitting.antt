@@ -11,14 +11,16 @@ use Rattle.slots.specs.Nodes as S
 use Rattle.slots_pool.specs.Image.{flatRows, block, image}
 use Rattle.model.specs.declared.Entry.{Entry}
 use Rattle.model.specs.declared.Totals.{Totals}
+use Rattle.model.specs.declared.PoolSettings.{PoolSettings}
 use Rattle.model.specs.declared.Settings.{Settings}
 use Rattle.model.specs.Lists.{All, none, one}
 use Rattle.model.specs.Tree.{Item, Tree, Index, len, entries, slots, slotsOf, total}
-use Rattle.model.specs.Sound.{InLimits, Whole, Fits, Sound}
+use Rattle.model.specs.Sound.{handed, InLimits, Whole, Fits, Sound}
 use Rattle.model.specs.Contracts.{flat}
 use Rattle.model.proofs.Lists.{all-append, all-left, all-right, all-map, all-of, all-head}
 use Rattle.model.proofs.Trees.{slotsIn, listTotals, total-list, totals-count, sizes-few, root-few}
 use Rattle.model.proofs.Readable.{separator-has}
+use Rattle.slots_pool.specs.Header.{layoutNumber}
 use Rattle.tree.specs.Bridge.{kindFor, rowFor, nodeFor, Cell, cells, cellsOf}
 use Rattle.tree.specs.Pool.{nodesOf, wordsOf}
 use Rattle.tree.proofs.Few.{entries-most, slots-low}
@@ -48,16 +50,16 @@ blanks-fit : (n : ℕ) → All RowFits (replicate n blank)
 blanks-fit zero = none
 blanks-fit (suc n) = one {x = blank} (record { key = omega arith; body = omega arith; size = omega arith }) (blanks-fit n)
 
-block-words : (order : ℕ) (n : S.Node) → order ≤ 32 → NodeFits order n → All Word (block (rawFor order n))
+block-words : (m order : ℕ) (n : S.Node) → order ≤ 32 → NodeFits order n → All Word (block (rawFor m n))
 unfolding block rawFor pad
-block-words order n le f =
+block-words m order n le f =
     let count : Word (length (n .rows)) = omega (arith, f .few) in
-    one (f .kind) (one count (rows-words (all-append (f .rows) (blanks-fit (2 * order - length (n .rows))))))
+    one (f .kind) (one count (rows-words (all-append (f .rows) (blanks-fit (m - length (n .rows))))))
 
-image-words : (order : ℕ) (ns : List S.Node) → order ≤ 32 → ((s : ℕ) → NodeFits order (nth ns s)) → All Word (image order ns)
+image-words : (m order : ℕ) (ns : List S.Node) → order ≤ 32 → ((s : ℕ) → NodeFits order (nth ns s)) → All Word (image m ns)
 unfolding image
-image-words order [] le f = none
-image-words order (n ∷ ns) le f = all-append (block-words order n le (f zero)) (image-words order ns le (λ s. f (suc s)))
+image-words m order [] le f = none
+image-words m order (n ∷ ns) le f = all-append (block-words m order n le (f zero)) (image-words m order ns le (λ s. f (suc s)))
 
 word-at : {ws : List ℕ} → All Word ws → (i : ℕ) → getD ws i 0 < 2 ^ 64
 word-at none i = omega arith
@@ -135,11 +137,12 @@ module _ (st : Settings) (x : Index) (s : Sound st x) where
   pub nodesOf-fit : (t : ℕ) → NodeFits (st .order) (nth (nodesOf (st .nodes) x) t)
   nodesOf-fit = nodesOf-have (NodeFits (st .order)) (record { kind = omega arith; few = omega arith; rows = none }) (st .nodes) x index-fits
 
-  pub image-fits : (i : ℕ) → getD (wordsOf st x) i 0 < 2 ^ 64
-  image-fits =
-      let lim : InLimits st = s .settings in
-      let layout : Word 1 = omega arith in
-      let nodes : Word (st .nodes) = omega (arith, lim .bounded) in
-      let order : Word (st .order) = omega (arith, lim .narrow) in
-      let minimum : Word (st .minimum) = omega (arith, lim .least, lim .narrow) in
-      word-at (one layout (one nodes (one order (one minimum (image-words (st .order) (nodesOf (st .nodes) x) (lim .narrow) nodesOf-fit)))))
+pub image-fits : (given : PoolSettings) (x : Index) → Sound (handed given) x → (i : ℕ) → getD (wordsOf given x) i 0 < 2 ^ 64
+image-fits given x s =
+    let st : Settings = handed given in
+    let lim : InLimits (handed given) = s .settings in
+    let layout : Word layoutNumber = omega arith in
+    let nodes : Word (given .nodes) = omega (arith, lim .bounded) in
+    let order : Word (given .order) = omega (arith, lim .narrow) in
+    let minimum : Word (given .minimum) = omega (arith, lim .least, lim .narrow) in
+    word-at (one layout (one nodes (one order (one minimum (image-words (st .rows) (st .order) (nodesOf (st .nodes) x) (lim .narrow) (nodesOf-fit st x s))))))

@@ -80,29 +80,29 @@ module _ (st : Settings) (ns : List S.Node) (x : Index) (sound : Sound st x) (k 
   light-root = omega (arith, entries-most st x sound)
 
   -- the index that is read off is the one that is held
-  pub held-index : indexIn ns ≡ x
+  pub held-index : indexIn (st .root) ns ≡ x
   held-index =
-      let height : heightAt ns 8 0 ≡ x .height =
+      let height : heightAt ns 8 (st .root) ≡ x .height =
       ap (heightAt ns 8) (sym (sound .rootSlot)) ∙ held-height st ns 8 (x .height) (omega (arith, sound .shallow)) (x .root) (sound .rooted) (sound .whole) light-root k in
-      let root : treeAt ns (x .height) 0 ≡ x .root = ap (treeAt ns (x .height)) (sym (sound .rootSlot)) ∙ held-tree ns (x .height) (x .root) light-root k in
-      ap (λ (h : ℕ). record { height = h; root = treeAt ns h 0; unused = unusedOf ns }) height
+      let root : treeAt ns (x .height) (st .root) ≡ x .root = ap (treeAt ns (x .height)) (sym (sound .rootSlot)) ∙ held-tree ns (x .height) (x .root) light-root k in
+      ap (λ (h : ℕ). record { height = h; root = treeAt ns h (st .root); unused = unusedOf ns }) height
       ∙ ap (λ (t : Tree (x .height)). record { height = x .height; root = t; unused = unusedOf ns }) root
       ∙ ap (λ (l : List ℕ). record { height = x .height; root = x .root; unused = l }) u
 
   pub held-sound : SoundNodes st ns
   held-sound =
-      let e : x ≡ indexIn ns = sym held-index in
-      let at-root : (P : ℕ → Type 0) → P (x .root .slot) → P 0 = λ P p. subst P (sound .rootSlot) p in
+      let e : x ≡ indexIn (st .root) ns = sym held-index in
+      let at-root : (P : ℕ → Type 0) → P (x .root .slot) → P (st .root) = λ P p. subst P (sound .rootSlot) p in
       record {
-        kinds = subst (λ (y : Index). Kinds ns (y .height) 0) e (at-root (Kinds ns (x .height)) (held-kinds ns (x .height) (x .root) light-root k));
+        kinds = subst (λ (y : Index). Kinds ns (y .height) (st .root)) e (at-root (Kinds ns (x .height)) (held-kinds ns (x .height) (x .root) light-root k));
         shallow = subst (λ (y : Index). depth y ≤ 8) e (sound .shallow);
         once = subst (λ (y : Index). Once (st .nodes) (slotsOf y) (y .unused)) e (sound .once);
         rooted = subst (λ (y : Index). Rooted st (y .height) (y .root)) e (sound .rooted);
         whole = subst (λ (y : Index). All (Whole st (y .height)) (y .root .items)) e (sound .whole);
         sorted = subst (λ (y : Index). Sorted (entriesOf y)) e (sound .sorted);
         fit = subst (λ (y : Index). All Fits (entriesOf y)) e (sound .fit);
-        separators = subst (λ (y : Index). EachChild Separates ns (y .height) 0) e
+        separators = subst (λ (y : Index). EachChild Separates ns (y .height) (st .root)) e
             (at-root (EachChild Separates ns (x .height)) (held-each Separates own-separator ns (x .height) (x .root) light-root k));
-        totals = subst (λ (y : Index). EachChild Totalled ns (y .height) 0) e
+        totals = subst (λ (y : Index). EachChild Totalled ns (y .height) (st .root)) e
             (at-root (EachChild Totalled ns (x .height)) (held-each Totalled own-totals ns (x .height) (x .root) light-root k));
       }

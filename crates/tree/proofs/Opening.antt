@@ -9,16 +9,16 @@ use lib.Dec.{leb}
 use lib.ListN.{length, replicate}
 use borrow.Author.Tests.{leb-true, le-leb, ne-eqb}
 use Rattle.words.specs.Words.{words, bytesOf}
-use Rattle.words.proofs.Laws.{Bytes, length-words, bytesOf-words}
-use Rattle.slots_raw.specs.Slots.{width, Shape}
+use Rattle.words.proofs.Laws.{Bytes, bytesOf-words}
+use Rattle.slots_raw.specs.Slots.{width, headLen}
 use Rattle.slots_pool.specs.Header.{headerOf}
 use Rattle.slots.specs.Nodes.{unused}
 use Rattle.slots.specs.Nodes as S
 use Rattle.slots_pool.specs.Image.{image, newNodes}
-use Rattle.model.specs.declared.Settings.{Settings}
+use Rattle.model.specs.declared.PoolSettings.{PoolSettings}
 use Rattle.model.specs.Lists.{upFrom}
 use Rattle.model.specs.Tree.{newIndex}
-use Rattle.model.specs.Sound.{InLimits}
+use Rattle.model.specs.Sound.{handed, InLimits}
 use Rattle.model.proofs.Calls.{new-sound}
 use Rattle.tree.specs.Bridge.{Cell}
 use Rattle.tree.specs.Pool.{poolLen, nodeIn, nodesOf, imageOf, SoundPool}
@@ -36,9 +36,9 @@ pub tells-least : (low n high : ℕ) → n < low → Tells (leb low n) ((low ≤
 tells-least low n high h = record { holds = λ e. absurd (omega (arith, leb-true low n e)); told = λ p. le-leb low n (p .0) }
 
 -- the settings are in limits if each is
-pub tells-limits : (st : Settings) (r : Bool) → (8 ≤ st .nodes) × (st .nodes ≤ 16384) → (4 ≤ st .order) × (st .order ≤ 32)
-    → Tells r ((1 ≤ st .minimum) × (st .minimum ≤ (st .order + 1) / 2)) → Tells r (InLimits st)
-tells-limits st r n o t =
+pub tells-limits : (given : PoolSettings) (r : Bool) → (8 ≤ given .nodes) × (given .nodes ≤ 16384) → (4 ≤ given .order) × (given .order ≤ 32)
+    → Tells r ((1 ≤ given .minimum) × (given .minimum ≤ (given .order + 1) / 2)) → Tells r (InLimits (handed given))
+tells-limits given r n o t =
     record {
       holds = λ e. record { many = n .0; bounded = n .1; wide = o .0; narrow = o .1; some = t .holds e .0; least = t .holds e .1 };
       told = λ lim. t .told (lim .some, lim .least);
@@ -46,11 +46,9 @@ tells-limits st r n o t =
 
 -- THE LENGTH of a pool fits a number
 
-pub slots-small : (st : Settings) → InLimits st → st .nodes * width (st .order) ≤ 3178496
-slots-small st lim = mul-le-mul {n₁ = st .nodes} {m₁ = width (st .order)} {n₂ = 16384} {m₂ = 194} (lim .bounded) (omega (arith, lim .narrow))
-
-pub exact-shape : (st : Settings) (l : List ℕ) → InLimits st → length l ≡ poolLen st → Shape st (words l)
-exact-shape st l lim e = record { limits = lim; size = omega (arith, length-words l) }
+pub slots-small : (given : PoolSettings) → InLimits (handed given) → given .nodes * width (handed given .rows) ≤ 3178496
+slots-small given lim =
+    mul-le-mul {n₁ = given .nodes} {m₁ = width (handed given .rows)} {n₂ = 16384} {m₂ = 194} (lim .bounded) (omega (arith, lim .narrow))
 
 -- A NEW INDEX: its nodes are an empty leaf, and then unused ones
 
@@ -67,22 +65,22 @@ new-nodes (suc n) h =
     rw e (ap (λ (l : List S.Node). record { kind = 1; rows = [] } ∷ l) (later-unused (record { slot = 0; node = record { kind = 1; rows = [] } }) 1 n (omega arith)))
 
 -- a pool of these nodes is its image
-pub new-image : (st : Settings) (l : List ℕ) → InLimits st → length l ≡ poolLen st → Bytes l
-    → words l ≡ headerOf st ++ image (st .order) (newNodes (st .nodes)) → l ≡ imageOf st (newIndex (st .nodes))
-new-image st l lim n b e =
-    sym (bytesOf-words (4 + st .nodes * width (st .order)) l n b) ∙ ap bytesOf e
-    ∙ ap (λ (ns : List S.Node). bytesOf (headerOf st ++ image (st .order) ns)) (sym (new-nodes (st .nodes) (omega (arith, lim .many))))
+pub new-image : (given : PoolSettings) (l : List ℕ) → InLimits (handed given) → length l ≡ poolLen given → Bytes l
+    → words l ≡ headerOf given ++ image (handed given .rows) (newNodes (given .nodes)) → l ≡ imageOf given (newIndex (given .nodes))
+new-image given l lim n b e =
+    sym (bytesOf-words (headLen + given .nodes * width (handed given .rows)) l n b) ∙ ap bytesOf e
+    ∙ ap (λ (ns : List S.Node). bytesOf (headerOf given ++ image (handed given .rows) ns)) (sym (new-nodes (given .nodes) (omega (arith, lim .many))))
 
 -- so a pool that was opened is sound
-pub new-pool : (st : Settings) → InLimits st → SoundPool (imageOf st (newIndex (st .nodes)))
-new-pool st lim = image-sound st (newIndex (st .nodes)) (new-sound st lim)
+pub new-pool : (given : PoolSettings) → InLimits (handed given) → SoundPool (imageOf given (newIndex (given .nodes)))
+new-pool given lim = image-sound given (newIndex (given .nodes)) (new-sound given lim)
 
 -- THE PROMISE LEAVES ONE ANSWER, and one pool
 
-pub opened-unique : (st : Settings) (l₀ : List ℕ) (q r : Bool) (k l : List ℕ) → Opened st l₀ q k → Opened st l₀ r l → (q ≡ r) × (k ≡ l)
-opened-unique st l₀ q r k l a b = (tells-unique (a .answer) (b .answer), by q r (tells-unique (a .answer) (b .answer)) a b)
+pub opened-unique : (given : PoolSettings) (l₀ : List ℕ) (q r : Bool) (k l : List ℕ) → Opened given l₀ q k → Opened given l₀ r l → (q ≡ r) × (k ≡ l)
+opened-unique given l₀ q r k l a b = (tells-unique (a .answer) (b .answer), by q r (tells-unique (a .answer) (b .answer)) a b)
   where
-    by : (q r : Bool) → q ≡ r → Opened st l₀ q k → Opened st l₀ r l → k ≡ l
+    by : (q r : Bool) → q ≡ r → Opened given l₀ q k → Opened given l₀ r l → k ≡ l
     by true true e a b = a .new refl ∙ sym (b .new refl)
     by false false e a b = a .kept refl ∙ sym (b .kept refl)
     by true false e a b = absurd (true≢false e)

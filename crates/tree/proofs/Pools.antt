@@ -4,21 +4,22 @@ use mathlib.Core.Path.{_≡_, refl, sym, ap, _∙_, subst}
 use mathlib.Core.List.{List, [], _∷_, _++_}
 use Prim.Native.Nat.{ℕ, _+_, _*_, _≤_}
 use native.Mathlib.Omega.{arith}
-use lib.ListN.{length, take, getD}
+use lib.ListN.{length, getD}
 use Rattle.words.specs.Words.{words, bytesOf}
 use Rattle.words.proofs.Laws.{Bytes, length-words, length-bytesOf, bytesOf-words, bytesOf-bytes, words-bytesOf}
-use Rattle.slots_raw.specs.Slots.{width}
-use Rattle.slots_pool.specs.Header.{settingsOf, headerOf}
+use Rattle.slots_raw.specs.Slots.{width, headLen, headIn, Shape}
+use Rattle.slots_pool.specs.Header.{layoutOf, settingsOf, headerOf}
 use Rattle.slots.specs.Nodes.{nodes, nth, Held}
 use Rattle.slots.specs.Nodes as S
 use Rattle.slots_pool.specs.Image.{image}
 use Rattle.slots_pool.proofs.Images.{image-of, image-nodes}
 use Rattle.slots.proofs.Nodes.{length-nodes}
+use Rattle.model.specs.declared.PoolSettings.{PoolSettings}
 use Rattle.model.specs.declared.Settings.{Settings}
 use Rattle.model.specs.Tree.{Index}
-use Rattle.model.specs.Sound.{InLimits, Sound}
+use Rattle.model.specs.Sound.{handed, InLimits, Sound}
 use Rattle.tree.specs.Bridge.{HoldsIndex}
-use Rattle.tree.specs.Pool.{poolLen, nodesOf, wordsOf, imageOf, settingsIn, nodesIn, indexOf, Zeros, SoundNodes, SoundPool}
+use Rattle.tree.specs.Pool.{poolLen, nodesOf, wordsOf, imageOf, givenIn, settingsIn, nodesIn, indexOf, Zeros, SoundNodes, SoundPool}
 use Rattle.tree.proofs.Unused.{unused-up}
 use Rattle.tree.proofs.SoundHolds.{slot-read, sound-holds}
 use Rattle.tree.proofs.HoldsSound.{held-index, held-sound}
@@ -27,26 +28,28 @@ use Rattle.tree.proofs.Fitting.{nodesOf-fit, image-fits}
 
 -- FROM NODES TO BYTES: a pool that holds a sound index is its image
 
-pub held-words : (st : Settings) (x : Index) (W : List ℕ) → Held st W → take 4 W ≡ headerOf st → HoldsIndex (nodes st W) x → Sound st x
-    → W ≡ wordsOf st x
-held-words st x W h e k s =
-    sym (image-of st W h) ∙ ap (λ (l : List ℕ). l ++ image (st .order) (nodes st W)) e
-    ∙ ap (λ (ns : List S.Node). headerOf st ++ image (st .order) ns) (held-nodesOf st x (nodes st W) (length-nodes st W) k s)
+pub held-words : (given : PoolSettings) (x : Index) (W : List ℕ) → let st = handed given in Held st W → headIn W ≡ headerOf given → HoldsIndex (nodes st W) x
+    → Sound st x → W ≡ wordsOf given x
+held-words given x W h e k s =
+    let st : Settings = handed given in
+    sym (image-of st W h) ∙ ap (λ (l : List ℕ). l ++ image (st .rows) (nodes st W)) e
+    ∙ ap (λ (ns : List S.Node). headerOf given ++ image (st .rows) ns) (held-nodesOf st x (nodes st W) (length-nodes st W) k s)
 
-pub held-bytes : (st : Settings) (x : Index) (W l : List ℕ) → Held st W → take 4 W ≡ headerOf st → HoldsIndex (nodes st W) x → Sound st x
-    → words l ≡ W → length l ≡ poolLen st → Bytes l → l ≡ imageOf st x
-held-bytes st x W l h e k s w n b =
-    sym (bytesOf-words (4 + st .nodes * width (st .order)) l n b) ∙ ap bytesOf (w ∙ held-words st x W h e k s)
+pub held-bytes : (given : PoolSettings) (x : Index) (W l : List ℕ) → let st = handed given in Held st W → headIn W ≡ headerOf given
+    → HoldsIndex (nodes st W) x → Sound st x → words l ≡ W → length l ≡ poolLen given → Bytes l → l ≡ imageOf given x
+held-bytes given x W l h e k s w n b =
+    sym (bytesOf-words (headLen + given .nodes * width (handed given .rows)) l n b) ∙ ap bytesOf (w ∙ held-words given x W h e k s)
 
 -- A SOUND POOL
 
+-- a pool of the exact length has the shape of its settings
+pub exact-shape : (given : PoolSettings) (l : List ℕ) → InLimits (handed given) → length l ≡ poolLen given → Shape (handed given) (words l)
+exact-shape given l lim e =
+    record { limits = lim; roomy = omega arith; most = omega (arith, lim .narrow); size = omega (arith, length-words l) }
+
 module _ (l : List ℕ) (s : SoundPool l) where
   pub sound-held : Held (settingsIn l) (words l)
-  sound-held =
-      record {
-        shape = record { limits = s .settings; size = omega (arith, length-words l, s .exact) };
-        each = λ t. s .zeros t .tail;
-      }
+  sound-held = record { shape = exact-shape (givenIn l) l (s .settings) (s .exact); each = λ t. s .zeros t .tail }
 
   -- its nodes hold its index
   pub sound-holds-index : HoldsIndex (nodesIn l) (indexOf l)
@@ -57,7 +60,7 @@ module _ (l : List ℕ) (s : SoundPool l) where
       let n : SoundNodes (settingsIn l) (nodesIn l) = s .nodes in
       record {
         settings = s .settings;
-        rootSlot = slot-read (nodesIn l) (indexOf l .height) 0;
+        rootSlot = slot-read (nodesIn l) (indexOf l .height) (settingsIn l .root);
         once = n .once;
         shallow = n .shallow;
         rooted = n .rooted;
@@ -67,76 +70,84 @@ module _ (l : List ℕ) (s : SoundPool l) where
         ascending = unused-up (nodesIn l);
       }
 
--- four words that begin a list
-four : (W : List ℕ) → 4 ≤ length W → take 4 W ≡ getD W 0 0 ∷ getD W 1 0 ∷ getD W 2 0 ∷ getD W 3 0 ∷ []
-four [] h = absurd (omega arith)
-four (a ∷ []) h = absurd (omega arith)
-four (a ∷ b ∷ []) h = absurd (omega arith)
-four (a ∷ b ∷ c ∷ []) h = absurd (omega arith)
-four (a ∷ b ∷ c ∷ d ∷ W) h = refl
+-- the words that begin a list
+head-words : (W : List ℕ) → headLen ≤ length W → headIn W ≡ getD W 0 0 ∷ getD W 1 0 ∷ getD W 2 0 ∷ getD W 3 0 ∷ []
+head-words [] h = absurd (omega arith)
+head-words (a ∷ []) h = absurd (omega arith)
+head-words (a ∷ b ∷ []) h = absurd (omega arith)
+head-words (a ∷ b ∷ c ∷ []) h = absurd (omega arith)
+head-words (a ∷ b ∷ c ∷ d ∷ W) h = refl
 
-pub sound-header : (l : List ℕ) → SoundPool l → take 4 (words l) ≡ headerOf (settingsIn l)
+pub sound-header : (l : List ℕ) → SoundPool l → headIn (words l) ≡ headerOf (givenIn l)
 sound-header l s =
-    four (words l) (omega (arith, length-words l, s .exact)) ∙ ap (λ (v : ℕ). v ∷ getD (words l) 1 0 ∷ getD (words l) 2 0 ∷ getD (words l) 3 0 ∷ []) (s .layout)
+    head-words (words l) (omega (arith, length-words l, s .exact))
+    ∙ ap (λ (v : ℕ). v ∷ getD (words l) 1 0 ∷ getD (words l) 2 0 ∷ getD (words l) 3 0 ∷ []) (s .layout)
 
-pub sound-image : (l : List ℕ) → SoundPool l → Bytes l → l ≡ imageOf (settingsIn l) (indexOf l)
+pub sound-image : (l : List ℕ) → SoundPool l → Bytes l → l ≡ imageOf (givenIn l) (indexOf l)
 sound-image l s b =
-    held-bytes (settingsIn l) (indexOf l) (words l) l (sound-held l s) (sound-header l s) (sound-holds-index l s) (sound-index l s) refl (s .exact) b
+    held-bytes (givenIn l) (indexOf l) (words l) l (sound-held l s) (sound-header l s) (sound-holds-index l s) (sound-index l s) refl (s .exact) b
 
 -- THE IMAGE OF A SOUND INDEX
 
-module _ (st : Settings) (x : Index) (s : Sound st x) where
-  rows-few : (t : ℕ) → length (nth (nodesOf (st .nodes) x) t .rows) ≤ 2 * st .order
+module _ (given : PoolSettings) (x : Index) (s : Sound (handed given) x) where
+  abbrev st : Settings
+  st = handed given
+
+  rows-few : (t : ℕ) → length (nth (nodesOf (st .nodes) x) t .rows) ≤ st .rows
   rows-few t = omega (arith, nodesOf-fit st x s t .few)
 
-  words-held : Held st (wordsOf st x)
-  words-held = image-nodes st (nodesOf (st .nodes) x) (s .settings) (length-nodesOf (st .nodes) x) (λ t g. rows-few t) .0
+  words-held : Held st (wordsOf given x)
+  words-held = image-nodes given (nodesOf (st .nodes) x) (s .settings) (length-nodesOf (st .nodes) x) (λ t g. rows-few t) .0
 
-  words-nodes : nodes st (wordsOf st x) ≡ nodesOf (st .nodes) x
-  words-nodes = image-nodes st (nodesOf (st .nodes) x) (s .settings) (length-nodesOf (st .nodes) x) (λ t g. rows-few t) .1
+  words-nodes : nodes st (wordsOf given x) ≡ nodesOf (st .nodes) x
+  words-nodes = image-nodes given (nodesOf (st .nodes) x) (s .settings) (length-nodesOf (st .nodes) x) (λ t g. rows-few t) .1
 
   -- its words are its header and nodes again
-  pub image-spells : words (imageOf st x) ≡ wordsOf st x
-  image-spells = words-bytesOf (wordsOf st x) (image-fits st x s)
+  pub image-spells : words (imageOf given x) ≡ wordsOf given x
+  image-spells = words-bytesOf (wordsOf given x) (image-fits given x s)
 
-  pub image-settings : settingsIn (imageOf st x) ≡ st
-  image-settings = ap settingsOf image-spells
+  pub image-given : givenIn (imageOf given x) ≡ given
+  image-given = ap settingsOf image-spells
 
-  pub image-read : nodesIn (imageOf st x) ≡ nodesOf (st .nodes) x
-  image-read = ap (λ (W : List ℕ). nodes (settingsOf W) W) image-spells ∙ words-nodes
+  pub image-settings : settingsIn (imageOf given x) ≡ st
+  image-settings = ap handed image-given
 
-  pub image-holds : HoldsIndex (nodesIn (imageOf st x)) x
+  pub image-read : nodesIn (imageOf given x) ≡ nodesOf (st .nodes) x
+  image-read = ap (λ (W : List ℕ). nodes (handed (settingsOf W)) W) image-spells ∙ words-nodes
+
+  pub image-holds : HoldsIndex (nodesIn (imageOf given x)) x
   image-holds = subst (λ (ns : List S.Node). HoldsIndex ns x) (sym image-read) (nodesOf-hold st x s)
 
-  pub image-index : indexOf (imageOf st x) ≡ x
-  image-index = held-index st (nodesIn (imageOf st x)) x s (image-holds .tree) (image-holds .unused)
+  pub image-index : indexOf (imageOf given x) ≡ x
+  image-index = held-index st (nodesIn (imageOf given x)) x s (image-holds .tree) (image-holds .unused)
 
-  pub image-bytes : Bytes (imageOf st x)
-  image-bytes = bytesOf-bytes (wordsOf st x)
+  pub image-bytes : Bytes (imageOf given x)
+  image-bytes = bytesOf-bytes (wordsOf given x)
 
-  pub image-length : length (imageOf st x) ≡ poolLen st
-  image-length = length-bytesOf (wordsOf st x) ∙ omega (arith, words-held .shape .size)
+  pub image-length : length (imageOf given x) ≡ poolLen given
+  image-length = length-bytesOf (wordsOf given x) ∙ omega (arith, words-held .shape .size)
 
-  pub image-sound : SoundPool (imageOf st x)
+  pub image-sound : SoundPool (imageOf given x)
   image-sound =
       let k : HoldsIndex (nodesOf (st .nodes) x) x = nodesOf-hold st x s in
-      let e : wordsOf st x ≡ words (imageOf st x) = sym image-spells in
+      let e : wordsOf given x ≡ words (imageOf given x) = sym image-spells in
       record {
-        layout = ap (λ (W : List ℕ). getD W 0 0) image-spells;
+        layout = ap layoutOf image-spells;
         settings = subst InLimits (sym image-settings) (s .settings);
-        exact = image-length ∙ ap poolLen (sym image-settings);
-        nodes = subst (λ (W : List ℕ). SoundNodes (settingsOf W) (nodes (settingsOf W) W)) e
+        exact = image-length ∙ ap poolLen (sym image-given);
+        nodes = subst (λ (W : List ℕ). SoundNodes (handed (settingsOf W)) (nodes (handed (settingsOf W)) W)) e
             (rw words-nodes (held-sound st (nodesOf (st .nodes) x) x s (k .tree) (k .unused)));
-        zeros = λ t. subst (λ (W : List ℕ). Zeros (settingsOf W) W t) e
+        zeros = λ t. subst (λ (W : List ℕ). Zeros (handed (settingsOf W)) W t) e
             (record { tail = words-held .each t; whole = rw words-nodes (k .blank t) });
       }
 
 -- BOTH DETERMINE EACH OTHER
 
-pub index-unique : (st su : Settings) (x y : Index) → Sound st x → Sound su y → imageOf st x ≡ imageOf su y → (st ≡ su) × (x ≡ y)
-index-unique st su x y s t e =
-    (sym (image-settings st x s) ∙ ap settingsIn e ∙ image-settings su y t, sym (image-index st x s) ∙ ap indexOf e ∙ image-index su y t)
+pub index-unique : (given other : PoolSettings) (x y : Index) → Sound (handed given) x → Sound (handed other) y → imageOf given x ≡ imageOf other y
+    → (given ≡ other) × (x ≡ y)
+index-unique given other x y s t e =
+    (sym (image-given given x s) ∙ ap givenIn e ∙ image-given other y t, sym (image-index given x s) ∙ ap indexOf e ∙ image-index other y t)
 
-pub pool-unique : (k l : List ℕ) → SoundPool k → SoundPool l → Bytes k → Bytes l → settingsIn k ≡ settingsIn l → indexOf k ≡ indexOf l → k ≡ l
+pub pool-unique : (k l : List ℕ) → SoundPool k → SoundPool l → Bytes k → Bytes l → givenIn k ≡ givenIn l → indexOf k ≡ indexOf l → k ≡ l
 pool-unique k l s t a b e x =
-    sound-image k s a ∙ ap (λ (st : Settings). imageOf st (indexOf k)) e ∙ ap (imageOf (settingsIn l)) x ∙ sym (sound-image l t b)
+    sound-image k s a ∙ ap (λ (given : PoolSettings). imageOf given (indexOf k)) e ∙ ap (imageOf (givenIn l)) x ∙ sym (sound-image l t b)

@@ -65,5 +65,5 @@ read-holds ns (suc h) s k a b =
     (kids-hold ns h (read-holds ns h) (k .1) a b)
 
 -- THE NODES OF A SOUND POOL hold the tree of its index
-pub sound-holds : (st : Settings) (ns : List S.Node) → SoundNodes st ns → Holds ns (indexIn ns .height) (indexIn ns .root)
-sound-holds st ns s = read-holds ns (indexIn ns .height) 0 (s .kinds) (s .separators) (s .totals)
+pub sound-holds : (st : Settings) (ns : List S.Node) → SoundNodes st ns → Holds ns (indexIn (st .root) ns .height) (indexIn (st .root) ns .root)
+sound-holds st ns s = read-holds ns (indexIn (st .root) ns .height) (st .root) (s .kinds) (s .separators) (s .totals)

@@ -3,24 +3,25 @@ use Prim.Native.Nat.{ℕ, zero, suc, _+_, _*_, _≤_}
 use mathlib.Core.Path.{_≡_}
 use mathlib.Core.Bool.{cond}
 use mathlib.Core.List.{List, [], _∷_, _++_, map}
-use lib.ListN.{length, getD}
+use lib.ListN.{length}
 use lib.Dec.{eqb}
 use Rattle.words.specs.Words.{words, bytesOf}
 use Rattle.slots_raw.specs.declared.Row.{Row}
-use Rattle.slots_raw.specs.Slots.{width, rawAt}
-use Rattle.slots_pool.specs.Header.{settingsOf, headerOf}
+use Rattle.slots_raw.specs.Slots.{width, headLen, rawAt}
+use Rattle.slots_pool.specs.Header.{layoutNumber, layoutOf, settingsOf, headerOf}
 use Rattle.slots.specs.Nodes.{nodes, nth, unused, Canon}
 use Rattle.slots.specs.Nodes as S
 use Rattle.slots_pool.specs.Image.{image}
+use Rattle.model.specs.declared.PoolSettings.{PoolSettings}
 use Rattle.model.specs.declared.Settings.{Settings}
 use Rattle.model.specs.Lists.{upFrom, All}
 use Rattle.model.specs.Tree.{Tree, Index, depth, entriesOf, slotsOf, greatestKey, total}
-use Rattle.model.specs.Sound.{InLimits, Whole, Rooted, Sorted, Fits, Once}
+use Rattle.model.specs.Sound.{handed, InLimits, Whole, Rooted, Sorted, Fits, Once}
 use Rattle.tree.specs.Bridge.{Cell, cells, childOf, childTotals, treeAt, unusedOf}
 
 -- THE EXACT LENGTH of a pool, in bytes
-abbrev pub poolLen : Settings → ℕ
-poolLen st = 8 * (4 + st .nodes * width (st .order))
+abbrev pub poolLen : PoolSettings → ℕ
+poolLen given = 8 * (headLen + given .nodes * width (handed given .rows))
 
 -- THE IMAGE of an index
 
@@ -33,11 +34,11 @@ abbrev pub nodesOf : ℕ → Index → List S.Node
 nodesOf n x = map (nodeIn (cells (suc (x .height)) (x .root))) (upFrom 0 n)
 
 -- the words of its pool, header and nodes; and the bytes
-abbrev pub wordsOf : Settings → Index → List ℕ
-wordsOf st x = headerOf st ++ image (st .order) (nodesOf (st .nodes) x)
+abbrev pub wordsOf : PoolSettings → Index → List ℕ
+wordsOf given x = headerOf given ++ image (handed given .rows) (nodesOf (given .nodes) x)
 
-abbrev pub imageOf : Settings → Index → List ℕ
-imageOf st x = bytesOf (wordsOf st x)
+abbrev pub imageOf : PoolSettings → Index → List ℕ
+imageOf given x = bytesOf (wordsOf given x)
 
 -- THE INDEX that a pool holds
 
@@ -50,18 +51,22 @@ abbrev pub heightAt : List S.Node → ℕ → ℕ → ℕ
 heightAt ns zero s = 0
 heightAt ns (suc most) s = cond (eqb (nth ns s .kind) 2) (suc (heightAt ns most (firstChild (nth ns s .rows)))) 0
 
--- the root is in slot 0; a tree that is deeper than 8 is seen as one of depth 9
-abbrev pub indexIn : List S.Node → Index
-indexIn ns = record { height = heightAt ns 8 0; root = treeAt ns (heightAt ns 8 0) 0; unused = unusedOf ns }
+-- of the root in some slot; a tree that is deeper than 8 is seen as one of depth 9
+abbrev pub indexIn : ℕ → List S.Node → Index
+indexIn root ns = record { height = heightAt ns 8 root; root = treeAt ns (heightAt ns 8 root) root; unused = unusedOf ns }
+
+-- the settings that it was opened with, and those that the layers are handed
+abbrev pub givenIn : List ℕ → PoolSettings
+givenIn l = settingsOf (words l)
 
 abbrev pub settingsIn : List ℕ → Settings
-settingsIn l = settingsOf (words l)
+settingsIn l = handed (givenIn l)
 
 abbrev pub nodesIn : List ℕ → List S.Node
 nodesIn l = nodes (settingsIn l) (words l)
 
 abbrev pub indexOf : List ℕ → Index
-indexOf l = indexIn (nodesIn l)
+indexOf l = indexIn (settingsIn l .root) (nodesIn l)
 
 -- A SOUND POOL: document 01's list, in its order
 
@@ -83,33 +88,33 @@ Totalled h r c = childTotals r ≡ total (suc h) c
 
 -- a slot has zeros past its rows, and nothing but zeros if it is unused
 pub record Zeros (st : Settings) (W : List ℕ) (s : ℕ) : Type 0 where
-  pub tail : Canon (st .order) (rawAt st W s)
+  pub tail : Canon (st .rows) (rawAt st W s)
   pub whole : nth (nodes st W) s .kind ≡ 0 → nth (nodes st W) s ≡ unused
 
 -- of the nodes ns of a pool with the settings st
 pub record SoundNodes (st : Settings) (ns : List S.Node) : Type 0 where
-  -- each node in use is reached once from slot 0, and no unused one is
-  pub once : Once (st .nodes) (slotsOf (indexIn ns)) (unusedOf ns)
+  -- each node in use is reached once from the root's slot, and no unused one is
+  pub once : Once (st .nodes) (slotsOf (indexIn (st .root) ns)) (unusedOf ns)
   -- leaves share one depth, at most 8
-  pub kinds : Kinds ns (indexIn ns .height) 0
-  pub shallow : depth (indexIn ns) ≤ 8
+  pub kinds : Kinds ns (indexIn (st .root) ns .height) (st .root)
+  pub shallow : depth (indexIn (st .root) ns) ≤ 8
   -- a leaf root holds 0 to order entries, an interior root 2 to order, any other node 1 to order
-  pub rooted : Rooted st (indexIn ns .height) (indexIn ns .root)
-  pub whole : All (Whole st (indexIn ns .height)) (indexIn ns .root .items)
+  pub rooted : Rooted st (indexIn (st .root) ns .height) (indexIn (st .root) ns .root)
+  pub whole : All (Whole st (indexIn (st .root) ns .height)) (indexIn (st .root) ns .root .items)
   -- keys strictly ascend over the whole walk; a size is of 4 bytes, though its word has 8
-  pub sorted : Sorted (entriesOf (indexIn ns))
-  pub fit : All Fits (entriesOf (indexIn ns))
+  pub sorted : Sorted (entriesOf (indexIn (st .root) ns))
+  pub fit : All Fits (entriesOf (indexIn (st .root) ns))
   -- each separator is its child's greatest key
-  pub separators : EachChild Separates ns (indexIn ns .height) 0
+  pub separators : EachChild Separates ns (indexIn (st .root) ns .height) (st .root)
   -- stored totals are right
-  pub totals : EachChild Totalled ns (indexIn ns .height) 0
+  pub totals : EachChild Totalled ns (indexIn (st .root) ns .height) (st .root)
 
 -- of its bytes
 pub record SoundPool (l : List ℕ) : Type 0 where
-  pub layout : getD (words l) 0 0 ≡ 1
+  pub layout : layoutOf (words l) ≡ layoutNumber
   -- the settings are in limits, and the length is exact
   pub settings : InLimits (settingsIn l)
-  pub exact : length l ≡ poolLen (settingsIn l)
+  pub exact : length l ≡ poolLen (givenIn l)
   pub nodes : SoundNodes (settingsIn l) (nodesIn l)
   -- unused slots, and what is past a node's rows, are all zero
   pub zeros : (s : ℕ) → Zeros (settingsIn l) (words l) s

@@ -3,11 +3,13 @@
 ghost use mathlib.Core.Path.{_≡_};
 ghost use Prim.Native.Nat.{_≤_};
 ghost use Rattle.model.specs.Answer.{Tells};
-ghost use Rattle.model.specs.Sound.{InLimits};
+ghost use Rattle.model.specs.Sound.{handed, InLimits};
 ghost use Rattle.tree.specs.Bridge.{kindFor};
 ghost use Rattle.tree.specs.Pool.{poolLen};
 ghost use Rattle.tree.specs.Opening.{Opened};
-use model::Settings;
+use model::PoolSettings;
+use slots_raw::HEADER;
+use slots_raw::width;
 
 // The kind of a node whose height is `height`: 1 for a leaf, 2 for an interior.
 pub fn kind_for(height: usize) -> u64
@@ -17,16 +19,16 @@ pub fn kind_for(height: usize) -> u64
 }
 
 // Whether a pool can have these settings.
-pub fn in_limits(st: Settings) -> bool
-    ensures { λ r. ⌜ Tells r (InLimits st) ⌝ }
+pub fn in_limits(given: PoolSettings) -> bool
+    ensures { λ r. ⌜ Tells r (InLimits (handed given)) ⌝ }
 {
-    if !within(8, st.nodes, 16384) {
+    if !within(8, given.nodes, 16384) {
         return false;
     }
-    if !within(4, st.order, 32) {
+    if !within(4, given.order, 32) {
         return false;
     }
-    within(1, st.minimum, (st.order + 1) / 2)
+    within(1, given.minimum, (given.order + 1) / 2)
 }
 
 // Whether `n` is `low` to `high`.
@@ -37,23 +39,24 @@ fn within(low: usize, n: usize, high: usize) -> bool
 }
 
 // The exact length of a pool, in bytes.
-pub fn pool_len(st: Settings) -> usize
-    requires { ⌜ InLimits st ⌝ }
-    ensures { λ r. ⌜ r ≡ poolLen st ⌝ }
+pub fn pool_len(given: PoolSettings) -> usize
+    requires { ⌜ InLimits (handed given) ⌝ }
+    ensures { λ r. ⌜ r ≡ poolLen given ⌝ }
 {
-    8 * (4 + st.nodes * (2 + 6 * st.order))
+    let st = model::handed(given);
+    8 * (HEADER + given.nodes * width(st))
 }
 
 // Makes the pool one empty leaf, whatever it held, if the settings are in limits and its length is exact.
-pub fn open(pool: &mut [u8], st: Settings) -> bool
-    ensures { λ r. ⌜ Opened st (now (pool .entry)) r (now (pool .exit)) ⌝ }
+pub fn open(pool: &mut [u8], given: PoolSettings) -> bool
+    ensures { λ r. ⌜ Opened given (now (pool .entry)) r (now (pool .exit)) ⌝ }
 {
-    if !in_limits(st) {
+    if !in_limits(given) {
         return false;
     }
-    if pool.len() != pool_len(st) {
+    if pool.len() != pool_len(given) {
         return false;
     }
-    slots_pool::open_pool(pool, st);
+    slots_pool::open_pool(pool, given);
     true
 }

@@ -3,7 +3,7 @@ mod batches; // kinds 3 to 6
 
 use index_promise::OpenAnswer;
 use index_promise::TotalsAnswer;
-use model::Settings;
+use model::PoolSettings;
 use trial::at;
 use trial::put_word;
 use trial_lines::form::formed;
@@ -50,7 +50,7 @@ fn call(pool: &mut [u8], kind: u64, args: &[u64]) -> Told {
 
 fn open(pool: &mut [u8], args: &[u64]) -> Told {
     fill(pool);
-    let st = Settings {
+    let st = PoolSettings {
         nodes: at(args, 0) as usize,
         order: at(args, 1) as usize,
         minimum: at(args, 2) as usize,

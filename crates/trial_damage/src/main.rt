@@ -4,7 +4,7 @@
 use index_promise::BatchAnswer;
 use index_promise::OpenAnswer;
 use model::Operation;
-use model::Settings;
+use model::PoolSettings;
 use trial::say;
 use trial::tell;
 use trial::times;
@@ -34,7 +34,7 @@ struct Plan {
 // A new pool.
 fn empty() {
     let mut pool = [0u8; 1696];
-    let st = Settings {
+    let st = PoolSettings {
         nodes: 8,
         order: 4,
         minimum: 2,
@@ -53,7 +53,7 @@ fn empty() {
 // One leaf of four entries.
 fn lone_leaf() {
     let mut pool = [0u8; 1696];
-    let st = Settings {
+    let st = PoolSettings {
         nodes: 8,
         order: 4,
         minimum: 1,
@@ -72,7 +72,7 @@ fn lone_leaf() {
 // One leaf with the entry that is all zero.
 fn zero_entry() {
     let mut pool = [0u8; 1696];
-    let st = Settings {
+    let st = PoolSettings {
         nodes: 8,
         order: 4,
         minimum: 1,
@@ -91,7 +91,7 @@ fn zero_entry() {
 // The pool P of the cases.
 fn pool_p() {
     let mut pool = [0u8; 3360];
-    let st = Settings {
+    let st = PoolSettings {
         nodes: 16,
         order: 4,
         minimum: 2,
@@ -109,7 +109,7 @@ fn pool_p() {
 
 fn two_levels() {
     let mut pool = [0u8; 4128];
-    let st = Settings {
+    let st = PoolSettings {
         nodes: 16,
         order: 5,
         minimum: 3,
@@ -127,7 +127,7 @@ fn two_levels() {
 
 fn three_levels() {
     let mut pool = [0u8; 25632];
-    let st = Settings {
+    let st = PoolSettings {
         nodes: 64,
         order: 8,
         minimum: 4,
@@ -144,7 +144,7 @@ fn three_levels() {
 }
 
 // Opens a pool, sets the keys of a plan, and damages it.
-fn attempt(pool: &mut [u8], st: Settings, p: Plan) {
+fn attempt(pool: &mut [u8], st: PoolSettings, p: Plan) {
     if !opened(pool, st) {
         say(b" not opened\n");
         return;
@@ -163,7 +163,7 @@ fn attempt(pool: &mut [u8], st: Settings, p: Plan) {
     }
 }
 
-fn opened(pool: &mut [u8], st: Settings) -> bool {
+fn opened(pool: &mut [u8], st: PoolSettings) -> bool {
     match index::open(pool, st) {
         OpenAnswer::Done => true,
         OpenAnswer::Refused(_) => false,

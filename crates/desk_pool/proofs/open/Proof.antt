@@ -1,6 +1,6 @@
 -- `open` meets its contract: the settings of the desk are in limits, and the length is exact. Assumes nothing.
 use Rattle.index_promise.proofs.Unique.{by-sound}
-use Rattle.model.specs.Sound.{InLimits}
+use Rattle.model.specs.Sound.{handed, InLimits}
 use Rattle.desk_promise.specs.Program.{desk}
 use mathlib.Core.Path.{ap}
 use native.Mathlib.Omega.{arith}
@@ -10,7 +10,7 @@ use Rattle.desk_pool.proofs.open.Tie as tie
 
 returns : tie.Need-returns
 returns c =
-    let limits : InLimits desk =
+    let limits : InLimits (handed desk) =
     record { many = omega arith; bounded = omega arith; wide = omega arith; narrow = omega arith; some = omega arith; least = omega arith } in
     ap (λ w. w .bytes) (by-sound (limits, c .before .open-arg .given .0 .1) (c .«open» .ensures))
 

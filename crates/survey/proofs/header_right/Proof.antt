@@ -5,9 +5,10 @@ use lib.ListN.{length}
 use borrow.Author.Tests.{not-true, not-false, eqb-true, eq-eqb}
 use borrow.Author.Needs.{needs}
 use Rattle.words.proofs.Laws.{length-words}
-use Rattle.model.specs.Sound.{InLimits}
+use Rattle.model.specs.declared.PoolSettings.{PoolSettings}
+use Rattle.model.specs.Sound.{handed, InLimits}
 use Rattle.model.proofs.Answers.{tells-no, told-no}
-use Rattle.tree.specs.Pool.{poolLen, settingsIn}
+use Rattle.tree.specs.Pool.{poolLen, givenIn}
 use Rattle.survey.proofs.header_right.Statement.{statement}
 use Rattle.survey.proofs.header_right.Tie as tie
 
@@ -34,12 +35,12 @@ pool-len-requires c κs = c .before .in-limits .ensures .holds (not-false (c .be
 returns-4 : tie.Need-returns-4
 returns-4 c =
     let l = c .before .before .before .before .before .before .before .before .args .pool .now in
-    let st : c .before .before .before .settings .result ≡ settingsIn l = c .before .before .before .settings .ensures in
-    let size : c .pool-len .result ≡ poolLen (settingsIn l) = c .pool-len .ensures ∙ ap poolLen st in
+    let st : c .before .before .before .settings .result ≡ givenIn l = c .before .before .before .settings .ensures in
+    let size : c .pool-len .result ≡ poolLen (givenIn l) = c .pool-len .ensures ∙ ap poolLen st in
     record {
       holds = λ e. record {
         layout = sym (c .before .before .before .before .before .layout .ensures) ∙ c .before .before .before .before .if2 .left;
-        settings = subst InLimits st (c .before .before .in-limits .ensures .holds (not-false (c .before .before .in-limits .result) (c .before .if3 .left)));
+        settings = subst (λ (g : PoolSettings). InLimits (handed g)) st (c .before .before .in-limits .ensures .holds (not-false (c .before .before .in-limits .result) (c .before .if3 .left)));
         exact = eqb-true (length l) (c .pool-len .result) e ∙ size;
       };
       told = λ g. eq-eqb (length l) (c .pool-len .result) (g .exact ∙ sym size);
@@ -49,6 +50,7 @@ pub header-right-spec : {M : Type 1} → statement M
 header-right-spec =
     tie.close
     (tie.spec
+    (λ c. search needs)
     returns
     layout-requires
     returns-2

@@ -40,7 +40,7 @@ counted : (c : tie.After-raw-count Inv-loop μ-loop) →
 counted c =
     let start = c .before .before .before .before in
     let a = start .args in
-    c .raw-count .ensures ∙ head-count (a .st) (words (a .pool .now)) (a .s) (start .pre .0 .limits .wide) (headed (c .before) .few)
+    c .raw-count .ensures ∙ head-count (a .st) (words (a .pool .now)) (a .s) (start .pre .0) (headed (c .before) .few)
 
 -- in a turn there is a row i
 inside : (c : tie.In-loop Inv-loop μ-loop) →

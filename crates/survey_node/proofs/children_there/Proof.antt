@@ -40,7 +40,7 @@ counted : (c : tie.After-raw-count Inv-loop μ-loop) →
 counted c =
     let start = c .before .before in
     let a = start .args in
-    c .raw-count .ensures ∙ head-count (a .st) (words (a .pool .now)) (a .s) (start .pre .0 .0 .limits .wide) (start .pre .1)
+    c .raw-count .ensures ∙ head-count (a .st) (words (a .pool .now)) (a .s) (start .pre .0 .0) (start .pre .1)
 
 -- in a turn there is a row i
 inside : (c : tie.In-loop Inv-loop μ-loop) →

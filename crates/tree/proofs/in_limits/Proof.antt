@@ -26,7 +26,7 @@ returns-3 : tie.Need-returns-3
 returns-3 c =
     let nodes = c .before .before .before .before .before .within in
     let order = c .before .before .before .within2 in
-    tells-limits (c .before .before .before .before .before .before .args .st) (c .within3 .result)
+    tells-limits (c .before .before .before .before .before .before .args .given) (c .within3 .result)
     (nodes .ensures .holds (not-false (nodes .result) (c .before .before .before .before .if1 .left)))
     (order .ensures .holds (not-false (order .result) (c .before .before .if2 .left))) (c .within3 .ensures)
 

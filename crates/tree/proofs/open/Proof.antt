@@ -5,9 +5,10 @@ use native.Mathlib.Omega.{arith}
 use lib.ListN.{length}
 use borrow.Author.Needs.{needs}
 use borrow.Author.Tests.{not-true, not-false}
-use Rattle.model.specs.Sound.{InLimits}
+use Rattle.model.specs.Sound.{handed, InLimits}
 use Rattle.tree.specs.Pool.{poolLen}
-use Rattle.tree.proofs.Opening.{exact-shape, new-image}
+use Rattle.tree.proofs.Pools.{exact-shape}
+use Rattle.tree.proofs.Opening.{new-image}
 use Rattle.model.proofs.Answers.{tells-no, tells-yes, told-no}
 use Rattle.tree.proofs.open.Statement.{statement}
 use Rattle.tree.proofs.open.Tie as tie
@@ -35,19 +36,19 @@ open-pool-requires : tie.Need-open-pool-requires
 open-pool-requires c κs =
     let a = c .before .before .before .before .before .before .args in
     let test = c .before .before .before .before .in-limits in
-    let exact : length (a .pool .now) ≡ poolLen (a .st) = omega (arith, c .before .before .pool-len .ensures) in
-    exact-shape (a .st) (a .pool .now) (test .ensures .holds (not-false (test .result) (c .before .before .before .if1 .left))) exact
+    let exact : length (a .pool .now) ≡ poolLen (a .given) = omega (arith, c .before .before .pool-len .ensures) in
+    exact-shape (a .given) (a .pool .now) (test .ensures .holds (not-false (test .result) (c .before .before .before .if1 .left))) exact
 
 returns-3 : tie.Need-returns-3
 returns-3 c =
     let a = c .before .before .before .before .before .before .before .before .before .args in
     let test = c .before .before .before .before .before .before .before .in-limits in
-    let lim : InLimits (a .st) = test .ensures .holds (not-false (test .result) (c .before .before .before .before .before .before .if1 .left)) in
-    let exact : length (a .pool .now) ≡ poolLen (a .st) = omega (arith, c .before .before .before .before .before .pool-len .ensures) in
+    let lim : InLimits (handed (a .given)) = test .ensures .holds (not-false (test .result) (c .before .before .before .before .before .before .if1 .left)) in
+    let exact : length (a .pool .now) ≡ poolLen (a .given) = omega (arith, c .before .before .before .before .before .pool-len .ensures) in
     let made = c .before .before .open-pool in
     record {
       answer = tells-yes (lim, exact);
-      new = λ e. new-image (a .st) (made .last .0) lim (made .kept .0 ∙ exact) (λ i. c .slice-known2 .given i .fits) (made .ensures);
+      new = λ e. new-image (a .given) (made .last .0) lim (made .kept .0 ∙ exact) (λ i. c .slice-known2 .given i .fits) (made .ensures);
       kept = λ e. absurd (true≢false e);
     }
 

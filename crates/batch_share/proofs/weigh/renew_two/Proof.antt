@@ -12,7 +12,7 @@ add-renew c =
     let start = c .before .before .before .before .before .before in
     let a = start .args in
     let t = start .pre in
-    omega (arith, t .within, fits-node (a .st) (words (a .pool .now)) (a .s) (t .held), t .held .shape .limits .narrow)
+    omega (arith, t .within, fits-node (a .st) (words (a .pool .now)) (a .s) (t .held), t .held .shape .most)
 
 renew-requires-2 : tie.Need-renew-requires-2
 renew-requires-2 c κs =

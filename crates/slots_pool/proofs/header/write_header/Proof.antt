@@ -1,4 +1,4 @@
--- `write_header` meets its contract: the four words that it stores are the header, and those after them stay (`header-put`). Assumes nothing.
+-- `write_header` meets its contract: the words that it stores are the header, and those after them stay (`header-put`). Assumes nothing.
 use mathlib.Core.Path.{ap, _∙_}
 use Prim.Native.Nat.{ℕ}
 use mathlib.Core.List.{List}
@@ -16,12 +16,12 @@ returns c =
     let second = third .before .before .before .before in
     let first = second .before .before .before .before in
     let start = first .before .before .before in
-    let st = start .args .st in
+    let given = start .args .given in
     fourth .put4 .ensures .0
-    ∙ ap (λ (l : List ℕ). set l 3 (st .minimum)) (third .put3 .ensures .0)
-    ∙ ap (λ (l : List ℕ). set (set l 2 (st .order)) 3 (st .minimum)) (second .put2 .ensures .0)
-    ∙ ap (λ (l : List ℕ). set (set (set l 1 (st .nodes)) 2 (st .order)) 3 (st .minimum)) (first .put .ensures .0)
-    ∙ header-put (words (start .args .pool .now)) st (start .pre)
+    ∙ ap (λ (l : List ℕ). set l 3 (given .minimum)) (third .put3 .ensures .0)
+    ∙ ap (λ (l : List ℕ). set (set l 2 (given .order)) 3 (given .minimum)) (second .put2 .ensures .0)
+    ∙ ap (λ (l : List ℕ). set (set (set l 1 (given .nodes)) 2 (given .order)) 3 (given .minimum)) (first .put .ensures .0)
+    ∙ header-put (words (start .args .pool .now)) given (start .pre)
 
 pub write-header-spec : {M : Type 1} → statement M
 write-header-spec =

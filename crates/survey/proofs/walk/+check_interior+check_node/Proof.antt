@@ -119,7 +119,7 @@ counted : (t : ℕ) (c : check-interior-lts.After-raw-count (interior-calls t) (
 counted t c =
     let start = c .before .before .before .before in
     let a = start .args in
-    c .raw-count .ensures ∙ head-count (a .st) (words (a .pool .now)) (a .s) (start .pre .1 .0 .limits .wide) (opened t (c .before) .head .few)
+    c .raw-count .ensures ∙ head-count (a .st) (words (a .pool .now)) (a .s) (start .pre .1 .0) (opened t (c .before) .head .few)
 
 -- in a turn there is a row i
 inside : (t : ℕ) (c : check-interior-lts.In-loop (interior-calls t) (check-interior-at t) check-interior.Post Inv μ) →

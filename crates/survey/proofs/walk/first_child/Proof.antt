@@ -22,7 +22,7 @@ returns-2 c =
     let start = c .before .before .before .before .before in
     let a = start .args in
     c .child-of .ensures ∙ ap childOf (c .before .raw-row .ensures)
-    ∙ first-raw (a .st) (words (a .pool .now)) (a .s) (start .pre .0 .limits .wide) (omega (arith, c .before .before .before .raw-count .ensures))
+    ∙ first-raw (a .st) (words (a .pool .now)) (a .s) (start .pre .0) (omega (arith, c .before .before .before .raw-count .ensures))
 
 pub first-child-spec : {M : Type 1} → statement M
 first-child-spec =

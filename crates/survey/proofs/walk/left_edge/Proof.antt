@@ -1,4 +1,4 @@
--- `left_edge` meets its contract. The loop's invariant: the height from slot 0 is the steps taken and the height from here. Assumes nothing.
+-- `left_edge` meets its contract. The loop's invariant: the height from the root is the steps taken and the height from here. Assumes nothing.
 use mathlib.Core.Path.{_≡_, sym, ap, _∙_}
 use mathlib.Core.List.{List}
 use Prim.Native.Nat.{ℕ, suc, _+_, _-_, _≤_}
@@ -16,7 +16,7 @@ use Rattle.survey.proofs.walk.left_edge.Tie as tie
 
 abbrev Inv-loop : tie.InvT-loop
 Inv-loop pool st height₀ s₀ height s =
-    (height ≤ 8) × (heightAt (nodes st (words pool)) 8 0 ≡ height + heightAt (nodes st (words pool)) (8 - height) s)
+    (height ≤ 8) × (heightAt (nodes st (words pool)) 8 (st .root) ≡ height + heightAt (nodes st (words pool)) (8 - height) s)
 
 abbrev μ-loop : tie.MeasureT-loop
 μ-loop pool st height₀ s₀ height s = 8 - height

@@ -33,7 +33,7 @@ returns-3 c =
     let start = least .before .before .before .before .before in
     let a = start .args in
     let walk = walked .check-node in
-    let chk : Checked (a .st) (words (a .pool .now)) (a .height) 0 (leastRoot (a .height)) unmet (a .used) (walk .result) =
+    let chk : Checked (a .st) (words (a .pool .now)) (a .height) (a .st .root) (leastRoot (a .height)) unmet (a .used) (walk .result) =
     rw (least .least-root .ensures) at (walk .ensures) in
     tells-no (verdict-fault (a .st) (words (a .pool .now)) (a .used) (start .pre .1 .used) (a .height) (walk .result) (start .pre .1 .height) chk
     (not-true (walk .result .ok) (c .if3 .taken)))
@@ -45,7 +45,7 @@ returns-4 c =
     let start = least .before .before .before .before .before in
     let a = start .args in
     let walk = walked .check-node in
-    let chk : Checked (a .st) (words (a .pool .now)) (a .height) 0 (leastRoot (a .height)) unmet (a .used) (walk .result) =
+    let chk : Checked (a .st) (words (a .pool .now)) (a .height) (a .st .root) (leastRoot (a .height)) unmet (a .used) (walk .result) =
     rw (least .least-root .ensures) at (walk .ensures) in
     verdict-tells (a .st) (words (a .pool .now)) (a .used) (start .pre .1 .used) (a .height) (walk .result) (start .pre .1 .height) chk (omega arith)
     (not-false (walk .result .ok) (c .before .if3 .left))
