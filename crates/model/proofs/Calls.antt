@@ -21,7 +21,7 @@ use Rattle.model.specs.declared.Wish.{Wish}
 use Rattle.model.specs.declared.Wish.the-variants.{Always}
 use Rattle.model.specs.Plain.{references, Task, each, pairs, tasksFor}
 use Rattle.model.specs.Change.{noCeiling}
-use Rattle.model.specs.Refuse.{Call, tasksOf, isRemove, isEach, descend, needed, refusal}
+use Rattle.model.specs.Refuse.{Call, tasksOf, isRemove, isEach, descend, needed, callRefusal, treeRefusal, refusal}
 use Rattle.model.specs.Sound.{handed, InLimits, Sound, Fits, Ascending, Once}
 use Rattle.model.specs.Demands.{ReferenceFits, ActionFits, OperationFits, Lent}
 use Rattle.model.specs.Contracts.{Rising, Removing, Grants}
@@ -30,24 +30,43 @@ use Rattle.model.proofs.Batches.{Room, Headroom}
 
 -- WHAT NO REFUSAL SAYS
 
+-- of the call ..
+pub record Formed (st : Settings) (c : Call) : Type 0 where
+  pub few : length (c .keys) ≤ st .order
+  pub matched : (isEach (c .operation) && not (eqb (length (c .places)) (length (c .keys)) && eqb (length (c .sizes)) (length (c .keys)))) ≡ false
+  pub rising : descend (c .keys) ≡ false
+
+pub formed : (st : Settings) (c : Call) (m : ℕ) → callRefusal st c m ≡ 0 → Formed st c × (m ≡ 0)
+formed st c m =
+    let n : ℕ = length (c .keys) in
+    by-test (λ (r : ℕ). r ≡ 0 → Formed st c × (m ≡ 0)) (ltb (st .order) n) (λ e q. absurd (omega arith)) (λ a.
+    by-test (λ (r : ℕ). r ≡ 0 → Formed st c × (m ≡ 0)) (isEach (c .operation) && not (eqb (length (c .places)) n && eqb (length (c .sizes)) n))
+    (λ e q. absurd (omega arith)) (λ b.
+    by-test (λ (r : ℕ). r ≡ 0 → Formed st c × (m ≡ 0)) (descend (c .keys)) (λ e q. absurd (omega arith))
+    (λ d q. (record { few = ltb-false _ _ a; matched = b; rising = d }, q))))
+
+-- .. and of the tree
+abbrev Roomy : Call → Index → Type 0
+Roomy c x = ((eqb (length (c .keys)) 0 || isRemove (c .operation)) ≡ true) ⊎ ((depth x < 8) × (needed (length (c .keys)) (depth x) ≤ length (x .unused)))
+
+roomy : (c : Call) (x : Index) → treeRefusal c x ≡ 0 → Roomy c x
+roomy c x =
+    let n : ℕ = length (c .keys) in
+    by-test (λ (r : ℕ). r ≡ 0 → Roomy c x) (eqb n 0 || isRemove (c .operation)) (λ e q. inl e) (λ f.
+    by-test (λ (r : ℕ). r ≡ 0 → Roomy c x) (leb 8 (depth x)) (λ e q. absurd (omega arith)) (λ g.
+    by-test (λ (r : ℕ). r ≡ 0 → Roomy c x) (ltb (length (x .unused)) (needed n (depth x))) (λ e q. absurd (omega arith))
+    (λ k q. inr (leb-false _ _ g, ltb-false _ _ k))))
+
 pub record Admitted (st : Settings) (c : Call) (x : Index) : Type 0 where
   pub few : length (c .keys) ≤ st .order
   pub matched : (isEach (c .operation) && not (eqb (length (c .places)) (length (c .keys)) && eqb (length (c .sizes)) (length (c .keys)))) ≡ false
   pub rising : descend (c .keys) ≡ false
-  pub room : ((eqb (length (c .keys)) 0 || isRemove (c .operation)) ≡ true)
-      ⊎ ((depth x < 8) × (needed (length (c .keys)) (depth x) ≤ length (x .unused)))
+  pub room : Roomy c x
 
 pub admitted : (st : Settings) (c : Call) (x : Index) → refusal st c x ≡ 0 → Admitted st c x
-admitted st c x =
-    let n : ℕ = length (c .keys) in
-    by-test (λ (r : ℕ). r ≡ 0 → Admitted st c x) (ltb (st .order) n) (λ e q. absurd (omega arith)) (λ a.
-    by-test (λ (r : ℕ). r ≡ 0 → Admitted st c x) (isEach (c .operation) && not (eqb (length (c .places)) n && eqb (length (c .sizes)) n)) (λ e q. absurd (omega arith)) (λ b.
-    by-test (λ (r : ℕ). r ≡ 0 → Admitted st c x) (descend (c .keys)) (λ e q. absurd (omega arith)) (λ d.
-    by-test (λ (r : ℕ). r ≡ 0 → Admitted st c x) (eqb n 0 || isRemove (c .operation))
-    (λ e q. record { few = ltb-false _ _ a; matched = b; rising = d; room = inl e }) (λ f.
-    by-test (λ (r : ℕ). r ≡ 0 → Admitted st c x) (leb 8 (depth x)) (λ e q. absurd (omega arith)) (λ g.
-    by-test (λ (r : ℕ). r ≡ 0 → Admitted st c x) (ltb (length (x .unused)) (needed n (depth x))) (λ e q. absurd (omega arith))
-    (λ k q. record { few = ltb-false _ _ a; matched = b; rising = d; room = inr (leb-false _ _ g, ltb-false _ _ k) }))))))
+admitted st c x q =
+    let (f, none-of-it) = formed st c (treeRefusal c x) q in
+    record { few = f .few; matched = f .matched; rising = f .rising; room = roomy c x none-of-it }
 
 -- THE TASKS OF A CALL: their keys are its keys
 

@@ -1,4 +1,4 @@
--- The call of a batch: refusals 3 to 7 in the table's order, its answer, and the index after it; and refusal 5 of a get. Assumes nothing.
+-- The call of a batch: refusals 3 to 7 in the table's order, those of the call alone and then those of the tree, its answer, and the index after it; and refusal 5 of a get. Assumes nothing.
 use mathlib.Core.Bool.{Bool, true, false, _&&_, _||_, not, cond}
 use mathlib.Core.List.{List, [], _∷_}
 use Prim.Native.Nat.{ℕ, _+_, _*_, max}
@@ -48,17 +48,25 @@ descend (k ∷ (j ∷ ks)) = ltb j k || descend (j ∷ ks)
 abbrev pub needed : ℕ → ℕ → ℕ
 needed n d = n * max d 2 + 4
 
--- The first number that applies, 0 where none does. A batch of no keys that passes 2 to 5 is done, and so is a Remove.
-abbrev pub refusal : Settings → Call → Index → ℕ
-refusal st c x =
+-- OF THE CALL ALONE: the first of 3, 4 and 5 that applies, or else another number
+abbrev pub callRefusal : Settings → Call → ℕ → ℕ
+callRefusal st c other =
     let n = length (c .keys) in
     cond (ltb (st .order) n) 3
     (cond (isEach (c .operation) && not (eqb (length (c .places)) n && eqb (length (c .sizes)) n)) 4
-    (cond (descend (c .keys)) 5
-    (cond (eqb n 0 || isRemove (c .operation)) 0
+    (cond (descend (c .keys)) 5 other))
+
+-- OF THE TREE: the first of 6 and 7 that applies, 0 where none does. A batch of no keys is done, and so is a Remove.
+abbrev pub treeRefusal : Call → Index → ℕ
+treeRefusal c x =
+    let n = length (c .keys) in
+    cond (eqb n 0 || isRemove (c .operation)) 0
     (cond (leb 8 (depth x)) 6
-    (cond (ltb (length (x .unused)) (needed n (depth x))) 7
-    0)))))
+    (cond (ltb (length (x .unused)) (needed n (depth x))) 7 0))
+
+-- The first number that applies: of the call, or else of the tree.
+abbrev pub refusal : Settings → Call → Index → ℕ
+refusal st c x = callRefusal st c (treeRefusal c x)
 
 abbrev pub answer : Settings → Call → Index → Answer Batched
 answer st c x =

@@ -2,8 +2,8 @@
 use mathlib.Core.Path.{refl, sym, _∙_}
 use borrow.Author.Tests.{eq-eqb, ne-eqb}
 use borrow.Author.Needs.{needs}
-use Rattle.index_refuse.proofs.miscounted.Statement.{statement}
-use Rattle.index_refuse.proofs.miscounted.Tie as tie
+use Rattle.index_refuse.proofs.call.miscounted.Statement.{statement}
+use Rattle.index_refuse.proofs.call.miscounted.Tie as tie
 
 returns : tie.Need-returns
 returns c = rw (sym (c .before .before .is-each .ensures) ∙ c .before .if1 .taken) (simp (eq-eqb _ _ (c .if2 .taken)) refl)

@@ -3,8 +3,8 @@
 use native.Mathlib.Nat.{mul-le-mul}
 use borrow.Author.Needs.{needs}
 use Rattle.index_refuse.proofs.Refuses.{needed-low, needed-high}
-use Rattle.index_refuse.proofs.needed.Statement.{statement}
-use Rattle.index_refuse.proofs.needed.Tie as tie
+use Rattle.index_refuse.proofs.room.needed.Statement.{statement}
+use Rattle.index_refuse.proofs.room.needed.Tie as tie
 
 returns : tie.Need-returns
 returns c = needed-low _ _ (c .if1 .taken)

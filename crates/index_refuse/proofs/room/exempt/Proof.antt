@@ -2,8 +2,8 @@
 use mathlib.Core.Path.{refl}
 use borrow.Author.Tests.{eq-eqb, ne-eqb}
 use borrow.Author.Needs.{needs}
-use Rattle.index_refuse.proofs.exempt.Statement.{statement}
-use Rattle.index_refuse.proofs.exempt.Tie as tie
+use Rattle.index_refuse.proofs.room.exempt.Statement.{statement}
+use Rattle.index_refuse.proofs.room.exempt.Tie as tie
 
 returns : tie.Need-returns
 returns c = simp (eq-eqb _ _ (c .if1 .taken)) refl

@@ -6,8 +6,8 @@ use lib.ListN.{length, drop}
 use borrow.Author.Needs.{needs}
 use Rattle.model.specs.Refuse.{descend}
 use Rattle.index_refuse.proofs.Refuses.{falls, rises, last}
-use Rattle.index_refuse.proofs.descends.Statement.{statement}
-use Rattle.index_refuse.proofs.descends.Tie as tie
+use Rattle.index_refuse.proofs.call.descends.Statement.{statement}
+use Rattle.index_refuse.proofs.call.descends.Tie as tie
 
 abbrev Inv-loop : tie.InvT-loop
 Inv-loop keys i₀ i = (1 ≤ i) × (descend (drop (i - 1) keys) ≡ descend keys)
