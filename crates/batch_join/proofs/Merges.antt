@@ -25,9 +25,11 @@ use Rattle.tree.specs.Bridge.{rowFor, nodeFor, unusedOf}
 use Rattle.tree.proofs.Cells.{kind-used}
 use Rattle.tree.proofs.Unused.{unused-released, unused-kept}
 use Rattle.batch_share.specs.Settle.{kidsAt, Settled}
-use Rattle.batch_share.specs.Weigh.{rowOver, Renews, renewed}
+use Rattle.tree_node.specs.Ask.{rowOver}
+use Rattle.batch_share.specs.Weigh.{Renews, renewed}
 use Rattle.batch_share.specs.Steps.{Bounded, Beside, Came, Left}
-use Rattle.batch_share.proofs.Weights.{row-over, sums-fit, bounded-left, bounded-right}
+use Rattle.tree_node.proofs.Weights.{row-over}
+use Rattle.batch_share.proofs.Weights.{sums-fit, bounded-left, bounded-right}
 use Rattle.batch_share.proofs.Zips.{set-turned, without-turned, map-turned}
 use Rattle.batch_share.proofs.Places.{node-used, node-len, family-rows, parent-in, came-kids}
 use Rattle.batch_share.proofs.Parents.{renews-after, renewed-after}

@@ -13,11 +13,11 @@ ghost use Rattle.tree_spare.specs.Spared.{Spared};
 ghost use Rattle.batch_share.specs.Settle.{Done, childAt, afterAt};
 ghost use Rattle.batch_share.specs.Steps.{Poised, Neighbours, Parted, Rowed, Levels, levelNodes};
 use batch_share::Standing;
-use batch_share::weigh::child_at;
 use batch_share::weigh::child_len;
 use batch_share::weigh::renew;
 use batch_share::weigh::renew_two;
 use model::Settings;
+use tree_node::child_at;
 use tree_spare::Spare;
 use tree_spare::after_freeing;
 
@@ -72,8 +72,8 @@ fn merge(pool: &mut [u8], st: Settings, below: usize, s: usize, i: usize, spare:
     requires { ⌜ Spared (nodes st (words (now pool))) spare ⌝ }
     ensures { λ r. let W = words (now (pool .entry)) in let ns = nodes st W in let p = childAt ns below s i in let c = childAt ns below s (i + 1) in ⌜ Rowed st W (words (now (pool .exit))) below s i r (record { nodes = refill p (p .items ++ c .items) ∷ afterAt ns below s (i + 1); unused = release (c .slot) (unusedOf ns) }) ⌝ }
 {
-    let p = child_at(pool, st, below, s, i);
-    let c = child_at(pool, st, below, s, i + 1);
+    let p = child_at(pool, st, s, i);
+    let c = child_at(pool, st, s, i + 1);
     slots_pair::join(pool, st, p, c);
     slots::remove_row(pool, st, s, i + 1);
     renew(pool, st, below, s, i, p);
@@ -87,8 +87,8 @@ fn even_out(pool: &mut [u8], st: Settings, below: usize, s: usize, i: usize)
     requires { ⌜ len (childAt (nodes st (words (now pool))) below s (i + 1)) ≤ st .order ⌝ }
     ensures { λ _. let W = words (now (pool .entry)) in let ns = nodes st W in let p = childAt ns below s i in let c = childAt ns below s (i + 1) in ⌜ Parted st W (words (now (pool .exit))) below s i (halved (refill p (p .items ++ c .items)) (c .slot)) ⌝ }
 {
-    let p = child_at(pool, st, below, s, i);
-    let c = child_at(pool, st, below, s, i + 1);
+    let p = child_at(pool, st, s, i);
+    let c = child_at(pool, st, s, i + 1);
     level(pool, st, p, c);
     renew_two(pool, st, below, s, i, p, c);
 }
@@ -121,7 +121,7 @@ pub fn take_out(
     requires { ⌜ Says st Remove (childAt (nodes st (words (now pool))) below s i) ⌝ }
     ensures { λ r. ⌜ Done st (words (now (pool .entry))) (words (now (pool .exit))) below s i Remove r ⌝ }
 {
-    let c = child_at(pool, st, below, s, i);
+    let c = child_at(pool, st, s, i);
     slots::release(pool, st, c);
     slots::remove_row(pool, st, s, i);
     Standing {

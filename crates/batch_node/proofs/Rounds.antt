@@ -38,8 +38,10 @@ use Rattle.batch_share.proofs.Zips.{drop-turned, getD-turned, map-turned}
 use Rattle.batch_share.proofs.Places.{before-is, child-is, after-is}
 use Rattle.batch_node.specs.declared.Reply.{Reply}
 use Rattle.batch_node.specs.Calls.{runOf, Asked, ToChange, Answers, Came}
-use Rattle.batch_seek.specs.Seek.{roams, skip, Seeked}
-use Rattle.batch_seek.proofs.Seeks.{roams-yes, seek-skip, seek-turned}
+use Rattle.tree_node.specs.Ask.{childFor, Chosen}
+use Rattle.tree_node.proofs.Seeks.{seek-child}
+use Rattle.batch_seek.specs.Seek.{roams}
+use Rattle.batch_seek.proofs.Seeks.{roams-yes, seek-turned}
 use Rattle.batch_node.proofs.Leaves.{slot-in}
 use Rattle.batch_node.proofs.Walks.{Walking, asked, says, stocked-sides, room, loose, loose-small, loose-fit, turn, fewer, start, Stop, finish}
 
@@ -216,7 +218,7 @@ module _ {st : Settings} {W₀ W : List ℕ} {h : ℕ} {node : Subtree} {b : Cal
   same = seek-turned (greatestKey (suc h)) (r .task .key) (r .here .before) (r .kid) (r .kids)
 
   -- THE CHILD that the code finds is the model's
-  module _ {j : ℕ} (sought : Seeked (rowsAt st W (node .slot)) i (getD (b .keys) (run .next) 0) j) where
+  module _ {j : ℕ} (sought : Chosen (rowsAt st W (node .slot)) i (getD (b .keys) (run .next) 0) j) where
     found-at : j ≡ length (z .before)
     found-at =
         let n : i ≡ 0 + length (map (rowFor (suc h)) (r .here .before)) = omega (arith, r .here .index, length-map (r .here .before) (rowFor (suc h))) in
@@ -227,10 +229,10 @@ module _ {st : Settings} {W₀ W : List ℕ} {h : ℕ} {node : Subtree} {b : Cal
         omega (
           arith,
           sought .is,
-          ap (λ (x : List Row). skip (getD (b .keys) (run .next) 0) x) e,
-          ap (λ (x : ℕ). skip x (map (rowFor (suc h)) (r .kid ∷ r .kids))) (sym (r .key)),
+          ap (λ (x : List Row). childFor (getD (b .keys) (run .next) 0) x) e,
+          ap (λ (x : ℕ). childFor x (map (rowFor (suc h)) (r .kid ∷ r .kids))) (sym (r .key)),
           r .here .index,
-          seek-skip h (r .task .key) (r .here .before) (r .kid) (r .kids),
+          seek-child h (r .task .key) (r .here .before) (r .kid) (r .kids),
         )
 
     module _ {row : Row} (er : row ≡ getD (rowsAt st W (node .slot)) j blank) where

@@ -12,10 +12,10 @@ use batch_seek::ceiling_for;
 use batch_seek::changed_by;
 use batch_seek::result_of;
 use batch_seek::roams_on;
-use batch_seek::seek_child;
 use model::ChangeResult;
 use model::Operation;
 use model::Settings;
+use tree_node::child_for;
 
 // How far a batch has come, and what became of the node.
 pub struct Reply {
@@ -67,7 +67,7 @@ fn interior_change(
     while roams_on(pool, st, node.slot, keys, now.next, node.ceiling, i) {
         let next = now.next;
         let key = keys[next];
-        let j = seek_child(pool, st, node.slot, i, key);
+        let j = child_for(pool, st, node.slot, i, key);
         let row = slots::row_at(pool, st, node.slot, j);
         let child = Subtree {
             height: below,

@@ -23,9 +23,10 @@ use Rattle.tree.specs.Bridge.{kindFor, rowFor, nodeFor, cellsOf, Stands, Holds,
 use Rattle.tree.proofs.Cells.{cells-append, agree-items, agree-tree, used-items, kind-used}
 use Rattle.tree.proofs.Unused.{used-in, unused-taken}
 use Rattle.tree.specs.Sums.{Sums}
-use Rattle.batch_share.specs.Weigh.{rowOver}
+use Rattle.tree_node.specs.Ask.{rowOver}
 use Rattle.batch_share.specs.Steps.{Bounded}
-use Rattle.batch_share.proofs.Weights.{row-over, sums-fit, bounded-left, bounded-right}
+use Rattle.tree_node.proofs.Weights.{row-over}
+use Rattle.batch_share.proofs.Weights.{sums-fit, bounded-left, bounded-right}
 use Rattle.batch_share.proofs.Places.{node-used}
 use Rattle.batch_share.proofs.Puts.{put-first, put-second, put-other, blank-set}
 use Rattle.batch_root.specs.Roots.{moved, crowned}

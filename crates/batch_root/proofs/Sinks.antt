@@ -5,7 +5,6 @@ use mathlib.Core.List.{List}
 use Prim.Native.Nat.{ℕ, suc, _<_}
 use native.Mathlib.Omega.{arith}
 use lib.ListN.{length, getD}
-use Rattle.slots_raw.specs.declared.Row.{Row}
 use Rattle.slots_raw.specs.Slots.{blank, headIn}
 use Rattle.slots.specs.Nodes.{Now, Give, nodes, nth, rowsAt, unused, putRows, putKind, put2, without, joinNodes}
 use Rattle.slots.specs.Nodes as S
@@ -20,7 +19,7 @@ use Rattle.tree_spare.specs.declared.Spare.{Spare}
 use Rattle.tree_spare.specs.Spared.{Spared, freeing}
 use Rattle.tree_spare.proofs.Spares.{spared-freed}
 use Rattle.batch_share.specs.Settle.{childAt}
-use Rattle.tree.proofs.SoundHolds.{slot-read}
+use Rattle.batch_share.proofs.Places.{slot-of}
 use Rattle.batch_root.specs.Roots.{indexAt, Keeps, Becomes, RootSettled, Lone, Lifted, lifted, collapsed}
 use Rattle.batch_root.proofs.Indexes.{index-read, now-holds}
 use Rattle.batch_root.proofs.Lifts.{none-left, raised, Single, child-root, child-in, raise, raise-holds}
@@ -30,13 +29,13 @@ single : {st : Settings} {W : List ℕ} {h : ℕ} {spare : Spare} → Lone st W 
 single p = record { holds = p .keeps .holds .tree; apart = p .keeps .apart; one = p .one }
 
 -- ONE CHILD, named by the root's row
-module _ {st : Settings} {W₀ : List ℕ} {h : ℕ} {spare : Spare} (pre : Lone st W₀ h spare) {row : Row} (er : row ≡ getD (rowsAt st W₀ 0) 0 blank)
-    {child : ℕ} (ec : child ≡ childOf row) where
+module _ {st : Settings} {W₀ : List ℕ} {h : ℕ} {spare : Spare} (pre : Lone st W₀ h spare) {child : ℕ}
+    (named : child ≡ childOf (getD (rowsAt st W₀ 0) 0 blank)) where
   abbrev ns : List S.Node
   ns = nodes st W₀
 
   slot-is : childAt ns h 0 0 .slot ≡ child
-  slot-is = slot-read ns h (childOf (getD (nth ns 0 .rows) 0 blank)) ∙ ap childOf (sym er) ∙ sym ec
+  slot-is = sym (slot-of ns h 0 0 named)
 
   away : child ≢ 0
   away e = child-root (single pre) (slot-is ∙ e)

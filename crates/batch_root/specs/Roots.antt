@@ -17,7 +17,7 @@ use Rattle.tree.specs.Bridge.{treeAt, unusedOf, Blank, HoldsIndex, Apart}
 use Rattle.model.specs.declared.ChangeResult.{ChangeResult}
 use Rattle.batch_share.specs.Settle.{childAt}
 use Rattle.tree.specs.Sums.{Sums}
-use Rattle.batch_share.specs.Weigh.{rowOver}
+use Rattle.tree_node.specs.Ask.{rowOver}
 use Rattle.tree_spare.specs.declared.Spare.{Spare}
 use Rattle.tree_spare.specs.Spared.{Spared}
 use Rattle.batch_root.specs.declared.Root.{Root}

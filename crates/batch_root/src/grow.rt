@@ -2,9 +2,9 @@
 ghost use Rattle.words.specs.Words.{words};
 ghost use Rattle.slots.specs.Nodes.{Now, nodes};
 ghost use Rattle.batch_root.specs.Roots.{Splits, Halved, Moves, moved, Crowns, crowned};
-use batch_share::weigh::weigh;
 use model::Settings;
 use slots::INTERIOR;
+use tree_node::weigh;
 use tree_spare::Spare;
 use tree_spare::after_taking;
 

@@ -28,8 +28,7 @@ fn lift_child(pool: &mut [u8], st: Settings, below: usize, spare: Spare) -> Spar
     requires { ⌜ Lone st (words (now pool)) below spare ⌝ }
     ensures { λ r. let W = words (now (pool .entry)) in ⌜ Lifted st W (words (now (pool .exit))) below r ⌝ }
 {
-    let row = slots::row_at(pool, st, 0, 0);
-    let child = tree_rows::child_of(row);
+    let child = tree_node::child_at(pool, st, 0, 0);
     let k = tree::kind_for(below);
     slots::remove_row(pool, st, 0, 0);
     slots::set_kind(pool, st, 0, k);

@@ -1,12 +1,11 @@
 // The steps of the walk among a node's children that leave the pool as it is.
 ghost use mathlib.Core.Path.{_≡_};
 ghost use mathlib.Core.Bool.{_||_};
-ghost use Prim.Native.Nat.{_<_};
 ghost use lib.ListN.{length};
 ghost use Rattle.words.specs.Words.{words};
 ghost use Rattle.slots.specs.Nodes.{At, rowsAt};
 ghost use Rattle.model.specs.Change.{resultOf, isChange, ceilingFor};
-ghost use Rattle.batch_seek.specs.Seek.{roams, Seeked};
+ghost use Rattle.batch_seek.specs.Seek.{roams};
 use model::ChangeResult;
 use model::Settings;
 
@@ -31,23 +30,6 @@ pub fn roams_on(
         }
     }
     false
-}
-
-// The child of node `s`, from child `from` on, that `key` goes to: the first whose separator is not below it, or the last.
-pub fn seek_child(pool: &[u8], st: Settings, s: usize, from: usize, key: u64) -> usize
-    requires { ⌜ At st (words (now pool)) s × (from < length (rowsAt st (words (now pool)) s)) ⌝ }
-    ensures { λ r. ⌜ Seeked (rowsAt st (words (now (pool .entry))) s) from key r ⌝ }
-{
-    let n = slots::count(pool, st, s);
-    let mut i = from;
-    while i + 1 < n {
-        let separator = slots_find::key_at(pool, st, s, i);
-        if key <= separator {
-            return i;
-        }
-        i += 1;
-    }
-    i
 }
 
 // The ceiling handed down to a child: a key above the separator, which only the last child gets, is its own ceiling.

@@ -4,8 +4,9 @@ use mathlib.Core.List.{List, [], _∷_, _++_, map, reverseAux}
 use Prim.Native.Nat.{ℕ, suc, _+_, _<_}
 use native.Mathlib.Omega.{arith}
 use native.Mathlib.Decide.{ℕ-discrete}
-use lib.ListN.{length, take, set, length-map, length-take, length-reverseAux}
+use lib.ListN.{length, take, getD, set, length-map, length-take, length-reverseAux}
 use Rattle.slots_raw.specs.declared.Row.{Row}
+use Rattle.slots_raw.specs.Slots.{blank}
 use Rattle.slots.specs.Nodes.{nodes, nth, unused, putRows, Now}
 use Rattle.slots.specs.Nodes as S
 use Rattle.slots.proofs.Nodes.{length-nodes, nth-rows, nth-put}
@@ -25,11 +26,13 @@ use Rattle.tree.proofs.Unused.{used-in}
 use Rattle.model.specs.declared.ChangeResult.{ChangeResult}
 use Rattle.batch_share.specs.declared.Standing.{Standing}
 use Rattle.batch_share.specs.Settle.{inner, kidsAt, childAt, beforeAt, afterAt, Pending, Settled, Ended, Done}
-use Rattle.batch_share.specs.Weigh.{rowOver, Sits, Renews, renewed}
+use Rattle.tree_node.specs.Ask.{rowOver}
+use Rattle.batch_share.specs.Weigh.{Sits, Renews, renewed}
 use Rattle.batch_share.specs.Steps.{Bounded, Family, Poise, Poised, Came}
-use Rattle.batch_share.proofs.Weights.{row-over, sums-fit, bounded-left, bounded-right}
+use Rattle.tree_node.proofs.Weights.{row-over}
+use Rattle.batch_share.proofs.Weights.{sums-fit, bounded-left, bounded-right}
 use Rattle.batch_share.proofs.Zips.{set-turned, map-turned}
-use Rattle.batch_share.proofs.Places.{node-used, kids-apart, family-kids, family-long}
+use Rattle.batch_share.proofs.Places.{node-used, slot-of, kids-apart, family-kids, family-long}
 use Rattle.batch_share.proofs.Parents.{unused-rows}
 use Rattle.batch_share.proofs.Recast.{owns, then-settled}
 use Rattle.tree_spare.specs.declared.Spare.{Spare}
@@ -86,7 +89,10 @@ module _ {st : Settings} {W : List ℕ} {h s i : ℕ} {spare : Spare} {v : Chang
   bounded-child : Bounded h (c .items)
   bounded-child = bounded-left h (c .items) (joined a) (bounded-right h (back b) (c .items ++ joined a) bounded)
 
-  module _ (y : ℕ) (ey : y ≡ c .slot) where
+  module _ (y : ℕ) (named : y ≡ childOf (getD (nth ns s .rows) i blank)) where
+    ey : y ≡ c .slot
+    ey = slot-of ns h s i named
+
     own-y : nth ns y ≡ nodeFor h c
     own-y = ap (nth ns) ey ∙ own-child
 

@@ -5,10 +5,10 @@ use batch_join::absorb;
 use batch_join::take_out;
 use batch_share::Standing;
 use batch_share::share_out;
-use batch_share::weigh::child_at;
 use batch_share::weigh::renew;
 use model::ChangeResult;
 use model::Settings;
+use tree_node::child_at;
 use tree_spare::Spare;
 
 // Settles the result `v` of child `i` of node `s`, whose children have height `below`. (The Rust's `process_interior_change_result`.)
@@ -24,7 +24,7 @@ pub fn settle_child(
     requires { ⌜ Pending st (words (now pool)) below s i spare v ⌝ }
     ensures { λ r. ⌜ Done st (words (now (pool .entry))) (words (now (pool .exit))) below s i v r ⌝ }
 {
-    let c = child_at(pool, st, below, s, i);
+    let c = child_at(pool, st, s, i);
     renew(pool, st, below, s, i, c);
     match v {
         ChangeResult::Unchanged => Standing { at: i, spare },

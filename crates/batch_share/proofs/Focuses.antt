@@ -4,7 +4,8 @@ use mathlib.Core.Logic.{_≢_}
 use mathlib.Core.List.{List, [], _∷_, _++_, map, reverseAux}
 use Prim.Native.Nat.{ℕ, suc, _+_, _≤_, _<_}
 use native.Mathlib.Omega.{arith}
-use lib.ListN.{length, length-map, length-reverseAux}
+use lib.ListN.{length, getD, length-map, length-reverseAux}
+use Rattle.slots_raw.specs.Slots.{blank}
 use Rattle.slots.specs.Nodes.{nodes, nth, rowsAt}
 use Rattle.slots.proofs.Nodes.{length-nodes, fits-node}
 use Rattle.model.specs.declared.Settings.{Settings}
@@ -13,17 +14,17 @@ use Rattle.model.specs.Tree.{Tree, slots}
 use Rattle.model.specs.Contracts.{joined, back}
 use Rattle.model.proofs.Lists.{all-head, all-tail, hit-same}
 use Rattle.model.proofs.Trees.{back-joined, own, slotsIn}
-use Rattle.tree.specs.Bridge.{rowFor, nodeFor}
+use Rattle.tree.specs.Bridge.{rowFor, nodeFor, childOf}
 use Rattle.tree.specs.Bridge as T
 use Rattle.tree.proofs.Cells.{cells-rest}
 use Rattle.tree.proofs.Unused.{used-in}
 use Rattle.tree_spare.specs.declared.Spare.{Spare}
-use Rattle.batch_share.specs.Settle.{inner}
+use Rattle.batch_share.specs.Settle.{inner, childAt}
 use Rattle.batch_share.specs.Weigh.{Sits}
-use Rattle.batch_share.specs.Steps.{Bounded, Focus, Poise}
+use Rattle.batch_share.specs.Steps.{Bounded, Focus, Focused, Poise}
 use Rattle.batch_share.proofs.Weights.{bounded-left, bounded-right}
 use Rattle.batch_share.proofs.Zips.{map-turned}
-use Rattle.batch_share.proofs.Places.{node-used, family-rows, family-long, parent-in}
+use Rattle.batch_share.proofs.Places.{node-used, Named, named-at, family-rows, family-long, parent-in}
 use Rattle.batch_share.proofs.Recast.{owns, family-counts}
 
 module _ {st : Settings} {W : List ℕ} {h s i : ℕ} {b : List (Tree h)} {c : Tree h} {a : List (Tree h)} (t : Focus st W h s i b c a) where
@@ -67,6 +68,11 @@ module _ {st : Settings} {W : List ℕ} {h s i : ℕ} {b : List (Tree h)} {c : T
 
   pub focus-next : i + 1 ≡ 1 + length (map (rowFor (suc h)) b)
   focus-next = omega (arith, t .at, length-map b (rowFor (suc h)))
+
+-- the slot in the parent's row is the child's
+pub child-named : {st : Settings} {W : List ℕ} {h s i : ℕ} → Focused st W h s i → {x : ℕ} → x ≡ childOf (getD (rowsAt st W s) i blank)
+    → Named st W h (childAt (nodes st W) h s i) x
+child-named t e = named-at (focus-sits t) e
 
 -- among stocked siblings
 

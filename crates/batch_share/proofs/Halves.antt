@@ -27,9 +27,11 @@ use Rattle.tree_spare.specs.Spared.{Spared, ToTake}
 use Rattle.tree_spare.proofs.Spares.{spared-in, spared-taken}
 use Rattle.batch_share.specs.Settle.{kidsAt, Settled}
 use Rattle.tree.specs.Sums.{Weighs}
-use Rattle.batch_share.specs.Weigh.{rowOver, Renews, renewed}
+use Rattle.tree_node.specs.Ask.{rowOver}
+use Rattle.batch_share.specs.Weigh.{Renews, renewed}
 use Rattle.batch_share.specs.Steps.{Bounded, Focus, Poise, Came, Left}
-use Rattle.batch_share.proofs.Weights.{row-over, sums-fit, bounded-left, bounded-right}
+use Rattle.tree_node.proofs.Weights.{row-over}
+use Rattle.batch_share.proofs.Weights.{sums-fit, bounded-left, bounded-right}
 use Rattle.batch_share.proofs.Zips.{set-turned, putIn-turned, map-turned}
 use Rattle.batch_share.proofs.Places.{parent-in, came-kids}
 use Rattle.batch_share.proofs.Parents.{renews-after, renewed-after}

@@ -14,7 +14,8 @@ use Rattle.model.specs.declared.Settings.{Settings}
 use Rattle.tree.specs.Bridge.{unusedOf}
 use Rattle.tree.proofs.Unused.{unused-kept}
 use Rattle.tree.specs.Sums.{Sums}
-use Rattle.batch_share.specs.Weigh.{rowOver, Renews, renewed, RenewsTwo, renewedTwo}
+use Rattle.tree_node.specs.Ask.{rowOver}
+use Rattle.batch_share.specs.Weigh.{Renews, renewed, RenewsTwo, renewedTwo}
 
 pub unused-rows : (ns : List S.Node) (s : ℕ) (l : List Row) → unusedOf (putRows ns s l) ≡ unusedOf ns
 unfolding putRows

@@ -7,7 +7,7 @@ use native.Mathlib.Omega.{arith}
 use lib.ListN.{length, take, drop, getD, length-map, List·getD-map}
 use Rattle.slots_raw.specs.declared.Row.{Row}
 use Rattle.slots_raw.specs.Slots.{blank}
-use Rattle.slots.specs.Nodes.{nodes, nth, rowsAt}
+use Rattle.slots.specs.Nodes.{Rows, nodes, nth, rowsAt}
 use Rattle.slots.specs.Nodes as S
 use Rattle.slots.proofs.Nodes.{length-nodes}
 use Rattle.model.specs.declared.Settings.{Settings}
@@ -19,8 +19,9 @@ use Rattle.tree.specs.Bridge.{rowFor, nodeFor, treeAt, childOf}
 use Rattle.tree.proofs.Cells.{kind-used}
 use Rattle.tree.proofs.Unused.{used-in}
 use Rattle.tree.proofs.ReadOff.{kids-read}
+use Rattle.tree.proofs.SoundHolds.{slot-read}
 use Rattle.batch_share.specs.Settle.{inner, kidsAt, childAt, beforeAt, afterAt}
-use Rattle.batch_share.specs.Weigh.{Sits, Named}
+use Rattle.batch_share.specs.Weigh.{Sits}
 use Rattle.batch_share.specs.Steps.{Family, Came}
 use Rattle.batch_share.proofs.Zips.{take-turned, drop-turned, getD-turned, twice-turned, apart-at}
 
@@ -32,13 +33,29 @@ node-used ns h x y e z = kind-used h (ap (λ (n : S.Node). n .kind) (sym e) ∙ 
 pub node-len : (ns : List S.Node) (h x : ℕ) (y : Tree h) → nth ns x ≡ nodeFor h y → length (nth ns x .rows) ≡ len y
 node-len ns h x y e = ap (λ (n : S.Node). length (n .rows)) e ∙ length-map (y .items) (rowFor h)
 
-pub named : (st : Settings) (W : List ℕ) (h s i : ℕ) (c : Tree h) (r : ℕ) → Sits st W h s i c → r ≡ c .slot → Named st W h c r
-named st W h s i c r t e =
-    let own : nth (nodes st W) r ≡ nodeFor h c = ap (nth (nodes st W)) e ∙ t .own in
+-- r is the slot of the child c, which stands there
+pub record Named (st : Settings) (W : List ℕ) (h : ℕ) (c : Tree h) (r : ℕ) : Type 0 where
+  pub is : r ≡ c .slot
+  pub slot : r < st .nodes
+  pub count : length (rowsAt st W r) ≡ len c
+
+module _ {st : Settings} {W : List ℕ} {h s i : ℕ} {c : Tree h} (t : Sits st W h s i c) where
+  pub sits-row : Rows st W s i 1
+  sits-row = record { held = t .held; slot = t .parent; within = omega (arith, t .within) }
+
+-- the slot that row i names is that of child i
+pub slot-of : (ns : List S.Node) (h s i : ℕ) {y : ℕ} → y ≡ childOf (getD (nth ns s .rows) i blank) → y ≡ childAt ns h s i .slot
+slot-of ns h s i e = e ∙ sym (slot-read ns h (childOf (getD (nth ns s .rows) i blank)))
+
+pub named-at : {st : Settings} {W : List ℕ} {h s i : ℕ} → Sits st W h s i (childAt (nodes st W) h s i) → {r : ℕ}
+    → r ≡ childOf (getD (rowsAt st W s) i blank) → Named st W h (childAt (nodes st W) h s i) r
+named-at {st} {W} {h} {s} {i} t {r} e =
+    let same : r ≡ childAt (nodes st W) h s i .slot = slot-of (nodes st W) h s i e in
+    let own : nth (nodes st W) r ≡ nodeFor h (childAt (nodes st W) h s i) = ap (nth (nodes st W)) same ∙ t .own in
     record {
-      is = e;
-      slot = omega (arith, used-in (nodes st W) r (node-used (nodes st W) h r c own), length-nodes st W);
-      count = node-len (nodes st W) h r c own;
+      is = same;
+      slot = omega (arith, used-in (nodes st W) r (node-used (nodes st W) h r (childAt (nodes st W) h s i) own), length-nodes st W);
+      count = node-len (nodes st W) h r (childAt (nodes st W) h s i) own;
     }
 
 -- A FAMILY

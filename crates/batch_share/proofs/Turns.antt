@@ -4,8 +4,9 @@ use mathlib.Core.Logic.{_≢_}
 use mathlib.Core.List.{List, [], _∷_, _++_, map, reverseAux, append-assoc, append-nil}
 use Prim.Native.Nat.{ℕ, suc, _+_, _≤_, _<_}
 use native.Mathlib.Omega.{arith}
-use lib.ListN.{length, set, length-map, length-reverseAux}
+use lib.ListN.{length, getD, set, length-map, length-reverseAux}
 use Rattle.slots_raw.specs.declared.Row.{Row}
+use Rattle.slots_raw.specs.Slots.{blank}
 use Rattle.slots.specs.Nodes.{nodes, nth, rowsAt, putRows, put2, Now}
 use Rattle.slots.specs.Nodes as S
 use Rattle.slots.proofs.Nodes.{length-nodes, fits-node}
@@ -16,16 +17,18 @@ use Rattle.model.specs.Share.{Place}
 use Rattle.model.specs.Contracts.{joined, back}
 use Rattle.model.proofs.Lists.{all-head, all-tail, hit-same}
 use Rattle.model.proofs.Trees.{back-joined, own, slotsIn}
-use Rattle.tree.specs.Bridge.{rowFor, nodeFor, unusedOf}
+use Rattle.tree.specs.Bridge.{rowFor, nodeFor, childOf, unusedOf}
 use Rattle.tree.specs.Bridge as T
 use Rattle.tree.proofs.Cells.{cells-rest, kind-used}
 use Rattle.tree.proofs.Unused.{used-in}
-use Rattle.batch_share.specs.Settle.{inner, kidsAt, Settled}
-use Rattle.batch_share.specs.Weigh.{rowOver, Sits, RenewsTwo, renewedTwo}
-use Rattle.batch_share.specs.Steps.{Bounded, Family, Beside, Came}
-use Rattle.batch_share.proofs.Weights.{row-over, sums-fit, bounded-left, bounded-right}
+use Rattle.batch_share.specs.Settle.{inner, kidsAt, childAt, Settled}
+use Rattle.tree_node.specs.Ask.{rowOver}
+use Rattle.batch_share.specs.Weigh.{Sits, RenewsTwo, renewedTwo}
+use Rattle.batch_share.specs.Steps.{Bounded, Family, Beside, Neighbours, Came}
+use Rattle.tree_node.proofs.Weights.{row-over}
+use Rattle.batch_share.proofs.Weights.{sums-fit, bounded-left, bounded-right}
 use Rattle.batch_share.proofs.Zips.{set-turned, map-turned}
-use Rattle.batch_share.proofs.Places.{node-used, family-rows, family-long, parent-in, came-kids}
+use Rattle.batch_share.proofs.Places.{node-used, Named, named-at, family-rows, family-long, parent-in, came-kids}
 use Rattle.batch_share.proofs.Recast.{Own, owns, family-counts, recast-settles, then-settled}
 use Rattle.batch_share.proofs.Puts.{put-first, put-second, put-other, length-put, unused-put, blank-set}
 
@@ -235,3 +238,11 @@ module _ {st : Settings} {W W₁ : List ℕ} {h s i x y : ℕ} {b : List (Tree h
   pub moved-came : (W₂ : List ℕ) → Now st W₁ W₂ (renewedTwo (nodes st W₁) h s i x y)
       → Came st W W₂ h s (kidsAt (nodes st W) h s) (record { before = b; rest = p′ ∷ c′ ∷ a; unused = unusedOf (nodes st W) })
   moved-came = cut-came t (m .recut) W₁ (m .now) x y (m .lower) (m .upper)
+
+-- the slots in the parent's rows are those of the two
+module _ {st : Settings} {W : List ℕ} {h s i : ℕ} (t : Neighbours st W h s i) where
+  pub lower-named : {x : ℕ} → x ≡ childOf (getD (rowsAt st W s) i blank) → Named st W h (childAt (nodes st W) h s i) x
+  lower-named e = named-at (sits-lower t) e
+
+  pub upper-named : {x : ℕ} → x ≡ childOf (getD (rowsAt st W s) (i + 1) blank) → Named st W h (childAt (nodes st W) h s (i + 1)) x
+  upper-named e = named-at (sits-upper t) e

@@ -1,26 +1,16 @@
--- The row by which a node stands in its parent, worked out of the node's own rows; and the parent with such rows written. Assumes nothing.
+-- A child in its parent's row, and the parent with rows worked out of its children's own rows. Assumes nothing.
 use Prim.Native.Nat.{ℕ, _+_, _<_}
 use mathlib.Core.Path.{_≡_}
 use mathlib.Core.Logic.{_≢_}
-use mathlib.Core.List.{List, map}
+use mathlib.Core.List.{List}
 use lib.ListN.{length, set}
-use Rattle.slots_raw.specs.declared.Row.{Row}
 use Rattle.slots.specs.Nodes.{Held, nodes, nth, rowsAt, putRows}
 use Rattle.slots.specs.Nodes as S
 use Rattle.model.specs.declared.Settings.{Settings}
-use Rattle.model.specs.Tree.{Tree, len, lastOf}
-use Rattle.tree.specs.Bridge.{childRow, nodeFor}
-use Rattle.tree.specs.Sums.{sumRows, Sums}
-
--- THE ROW OF A NODE
-
--- the greatest key of the node with these rows
-abbrev pub lastKey : List Row → ℕ
-lastKey rows = lastOf (map (λ r. r .key) rows)
-
--- the row of the node of height h in slot c, which has these rows
-abbrev pub rowOver : ℕ → ℕ → List Row → Row
-rowOver h c rows = childRow (lastKey rows) c (sumRows h rows)
+use Rattle.model.specs.Tree.{Tree}
+use Rattle.tree.specs.Bridge.{nodeFor}
+use Rattle.tree.specs.Sums.{Sums}
+use Rattle.tree_node.specs.Ask.{rowOver}
 
 -- A CHILD, named by row i of node s
 
@@ -29,11 +19,6 @@ pub record Sits (st : Settings) (W : List ℕ) (h s i : ℕ) (c : Tree h) : Type
   pub parent : s < st .nodes
   pub within : i < length (rowsAt st W s)
   pub own : nth (nodes st W) (c .slot) ≡ nodeFor h c
-
-pub record Named (st : Settings) (W : List ℕ) (h : ℕ) (c : Tree h) (r : ℕ) : Type 0 where
-  pub is : r ≡ c .slot
-  pub slot : r < st .nodes
-  pub count : length (rowsAt st W r) ≡ len c
 
 -- THE PARENT'S ROWS made new
 

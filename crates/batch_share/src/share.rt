@@ -12,12 +12,12 @@ ghost use Rattle.tree.specs.Bridge.{unusedOf};
 ghost use Rattle.batch_share.specs.Settle.{Done, childAt, beforeAt, afterAt};
 ghost use Rattle.batch_share.specs.Steps.{Focused, Poised, Neighbours, Parted, Rowed, Hands, handedRows, roomIn};
 use crate::Standing;
-use crate::weigh::child_at;
 use crate::weigh::child_len;
 use crate::weigh::renew;
 use crate::weigh::renew_two;
-use crate::weigh::weigh;
 use model::Settings;
+use tree_node::child_at;
+use tree_node::weigh;
 use tree_spare::Spare;
 use tree_spare::after_taking;
 
@@ -107,7 +107,7 @@ fn split_child(
     requires { ⌜ Poised st (words (now pool)) below s i spare 1 ⌝ }
     ensures { λ r. let W = words (now (pool .entry)) in let ns = nodes st W in let us = unusedOf ns in let two = halved (childAt ns below s i) (lowest us) in ⌜ Rowed st W (words (now (pool .exit))) below s i r (record { nodes = two .lower ∷ two .upper ∷ afterAt ns below s i; unused = others us }) ⌝ }
 {
-    let c = child_at(pool, st, below, s, i);
+    let c = child_at(pool, st, s, i);
     slots_pair::split(pool, st, c, spare.low);
     let row = weigh(pool, st, below, spare.low);
     slots::insert_row(pool, st, s, i + 1, row);
@@ -122,8 +122,8 @@ fn give_back(pool: &mut [u8], st: Settings, below: usize, s: usize, i: usize)
     requires { ⌜ st .minimum ≤ len (childAt (nodes st (words (now pool))) below s (i + 1)) ⌝ }
     ensures { λ _. let W = words (now (pool .entry)) in let ns = nodes st W in ⌜ Parted st W (words (now (pool .exit))) below s i (shareBack st (childAt ns below s i) (childAt ns below s (i + 1))) ⌝ }
 {
-    let p = child_at(pool, st, below, s, i);
-    let c = child_at(pool, st, below, s, i + 1);
+    let p = child_at(pool, st, s, i);
+    let c = child_at(pool, st, s, i + 1);
     let a = handed(pool, st, c, p);
     slots_pair::share_back(pool, st, p, c, a);
     renew_two(pool, st, below, s, i, p, c);
@@ -136,8 +136,8 @@ fn give_on(pool: &mut [u8], st: Settings, below: usize, s: usize, i: usize)
     requires { ⌜ len (childAt (nodes st (words (now pool))) below s (i + 1)) ≤ st .order ⌝ }
     ensures { λ _. let W = words (now (pool .entry)) in let ns = nodes st W in ⌜ Parted st W (words (now (pool .exit))) below s i (shareOn st (childAt ns below s i) (childAt ns below s (i + 1))) ⌝ }
 {
-    let c = child_at(pool, st, below, s, i);
-    let n = child_at(pool, st, below, s, i + 1);
+    let c = child_at(pool, st, s, i);
+    let n = child_at(pool, st, s, i + 1);
     let a = handed(pool, st, c, n);
     slots_pair::share_forward(pool, st, c, n, a);
     renew_two(pool, st, below, s, i, c, n);

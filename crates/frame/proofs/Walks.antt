@@ -9,7 +9,7 @@ use lib.ListN.{length, take, drop, getD, getElem?, length-append, take-append-dr
 use lib.Seq.{take-suc, take-all}
 use Rattle.slots_raw.specs.declared.Row.{Row}
 use Rattle.slots_raw.specs.Slots.{blank}
-use Rattle.slots.specs.Nodes.{nodes, nth, At}
+use Rattle.slots.specs.Nodes.{nodes, nth, At, Rows}
 use Rattle.slots.specs.Nodes as S
 use Rattle.model.specs.declared.Settings.{Settings}
 use Rattle.model.specs.Lists.{concat, none}
@@ -34,6 +34,9 @@ module _ {A B C : Type 0} (f : B → List C) (g : A → B) (d : A) where
 
 pub standing-at : (st : Settings) (W : List ℕ) (h s : ℕ) → Standing st W h s → At st W s
 standing-at st W h s p = record { held = p .held; slot = subst (λ (x : ℕ). x < st .nodes) (slot-read (nodes st W) h s) (all-head (p .low)) }
+
+pub standing-row : (st : Settings) (W : List ℕ) (h s j : ℕ) → Standing st W h s → j < length (nth (nodes st W) s .rows) → Rows st W s j 1
+standing-row st W h s j p g = record { held = p .held; slot = standing-at st W h s p .slot; within = omega (arith, g) }
 
 pub child-standing : (st : Settings) (W : List ℕ) (h s j : ℕ) → Standing st W (suc h) s → j < length (nth (nodes st W) s .rows)
     → Standing st W h (childOf (getD (nth (nodes st W) s .rows) j blank))

@@ -12,7 +12,6 @@ ghost use Rattle.frame_text.specs.Contents.{contentsOf};
 ghost use Rattle.frame_text.specs.Answers.{Writes};
 ghost use Rattle.frame.specs.Walk.{Standing, itemAt, kindAt, entryFor, frameAt};
 use crate::Found;
-use crate::preorder::child_at;
 use crate::preorder::find;
 use crate::preorder::nodes_in;
 use frame_text::Contents;
@@ -25,6 +24,7 @@ use frame_text::no_entry;
 use frame_write::put_frame;
 use model::Settings;
 use slots_raw::Row;
+use tree_node::child_at;
 
 // Writes the frame of node `i` in preorder, or refuses with 14 or 16. The settings and the height are the pool's own.
 pub fn write_node(
@@ -102,6 +102,6 @@ fn nodes_under(pool: &[u8], st: Settings, height: usize, s: usize, j: usize) -> 
     if height == 0 {
         return 0;
     }
-    let child = child_at(pool, st, height, s, j);
+    let child = child_at(pool, st, s, j);
     nodes_in(pool, st, height - 1, child)
 }

@@ -1,15 +1,14 @@
 // The preorder walk over the slots of a pool: the walk to node i, and the number of nodes that a tree has.
 ghost use mathlib.Core.Path.{_≡_};
-ghost use Prim.Native.Nat.{suc, _-_, _<_};
-ghost use lib.ListN.{length, getD};
+ghost use Prim.Native.Nat.{suc};
 ghost use Rattle.words.specs.Words.{words};
-ghost use Rattle.slots_raw.specs.Slots.{blank};
-ghost use Rattle.slots.specs.Nodes.{nodes, rowsAt};
+ghost use Rattle.slots.specs.Nodes.{nodes};
 ghost use Rattle.model.specs.Frame.{nodesIn};
-ghost use Rattle.tree.specs.Bridge.{childOf, treeAt};
+ghost use Rattle.tree.specs.Bridge.{treeAt};
 ghost use Rattle.frame.specs.Walk.{Standing, Finds};
 use crate::Found;
 use model::Settings;
+use tree_node::child_at;
 
 // Goes through the tree of height `height` in slot `s` in preorder, up to node `i`.
 pub fn find(pool: &[u8], st: Settings, height: usize, s: usize, i: usize) -> Found
@@ -26,7 +25,7 @@ pub fn find(pool: &[u8], st: Settings, height: usize, s: usize, i: usize) -> Fou
     let n = slots::count(pool, st, s);
     let mut j = 0;
     while j < n {
-        let child = child_at(pool, st, height, s, j);
+        let child = child_at(pool, st, s, j);
         match find(pool, st, height - 1, child, left) {
             Found::Node(t, h) => return Found::Node(t, h),
             Found::Left(k) => left = k,
@@ -48,21 +47,9 @@ pub fn nodes_in(pool: &[u8], st: Settings, height: usize, s: usize) -> usize
     let n = slots::count(pool, st, s);
     let mut j = 0;
     while j < n {
-        let child = child_at(pool, st, height, s, j);
+        let child = child_at(pool, st, s, j);
         total += nodes_in(pool, st, height - 1, child);
         j += 1;
     }
     total
-}
-
-// The slot of child `j`, which stands as its parent does.
-pub fn child_at(pool: &[u8], st: Settings, height: usize, s: usize, j: usize) -> usize
-    requires { ⌜ Standing st (words (now pool)) height s ⌝ }
-    requires { ⌜ 0 < height ⌝ }
-    requires { ⌜ j < length (rowsAt st (words (now pool)) s) ⌝ }
-    ensures { λ r. ⌜ r ≡ childOf (getD (rowsAt st (words (now (pool .entry))) s) j blank) ⌝ }
-    ensures { λ r. ⌜ Standing st (words (now (pool .entry))) (height - 1) r ⌝ }
-{
-    let row = slots::row_at(pool, st, s, j);
-    tree_rows::child_of(row)
 }

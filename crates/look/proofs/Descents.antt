@@ -37,7 +37,8 @@ use Rattle.tree.specs.Bridge.{rowFor, entryOf, childOf, Holds, treeAt}
 use Rattle.tree.proofs.Keys.{rows-ascend, entries-from}
 use Rattle.tree.proofs.SoundHolds.{slot-read}
 use Rattle.look_output.specs.Output.{Page, enlistAll}
-use Rattle.look.specs.Lookup.{childFor, Chosen, Grown, Leads}
+use Rattle.tree_node.specs.Ask.{childFor, Chosen}
+use Rattle.look.specs.Lookup.{Grown, Leads}
 use Rattle.look_output.proofs.Outputs.{enlist-append}
 use Rattle.tree.proofs.Children.{at-map, held-at, child-held}
 
@@ -60,52 +61,7 @@ module _ (st : Settings) (W : List ℕ) (h s : ℕ) (k : Grown st W h s) where
   pub grown-some : h ≢ 0 → 0 < length (rowsAt st W s)
   grown-some ne = omega (arith, ap length rows-are, length-map (treeAt (nodes st W) h s .items) (rowFor h), k .some ne)
 
--- THE CHILD THAT A KEY GOES TO
-
-in-by : (t : Bool) (b c n : ℕ) → (b < n → b ≡ c) → pick t (suc b) 0 < suc n → pick t (suc b) 0 ≡ cond t (suc c) 0
-unfolding pick
-in-by true b c n f h = ap suc (f (le-of-suc-le-suc h))
-in-by false b c n f h = refl
-
-pub child-in : (key : ℕ) (rs : List Row) → below key rs < length rs → below key rs ≡ childFor key rs
-unfolding below pick
-child-in key [] h = absurd (not-suc-le-zero h)
-child-in key (r ∷ []) h = omega (arith, le-of-suc-le-suc h)
-child-in key (r ∷ (x ∷ rs)) h = in-by (ltb (r .key) key) (below key (x ∷ rs)) (childFor key (x ∷ rs)) (length (x ∷ rs)) (child-in key (x ∷ rs)) h
-
-out-by : (t : Bool) (b c n : ℕ) → (n ≤ b → n - 1 ≡ c) → 0 < n → suc n ≤ pick t (suc b) 0 → suc n - 1 ≡ cond t (suc c) 0
-unfolding pick
-out-by true b c n f p h = omega (arith, f (le-of-suc-le-suc h))
-out-by false b c n f p h = absurd (not-suc-le-zero h)
-
-pub child-out : (key : ℕ) (rs : List Row) → 0 < length rs → length rs ≤ below key rs → length rs - 1 ≡ childFor key rs
-unfolding below pick
-child-out key [] p h = absurd (not-suc-le-zero p)
-child-out key (r ∷ []) p h = refl
-child-out key (r ∷ (x ∷ rs)) p h =
-    out-by (ltb (r .key) key) (below key (x ∷ rs)) (childFor key (x ∷ rs)) (length (x ∷ rs)) (λ g. child-out key (x ∷ rs) (omega arith) g) (omega arith) h
-
--- the place that a search tells
-abbrev placeOf : Found → ℕ
-placeOf (At i) = i
-placeOf (Before i) = i
-
-place-found : (key : ℕ) (rs : List Row) → placeOf (findRow key rs) ≡ below key rs
-unfolding findRow
-place-found key rs = by (ltb (below key rs) (length rs)) (eqb (keyAt rs (below key rs)) key)
-  where
-    by : (t u : Bool) → placeOf (pick t (pick u (At (below key rs)) (Before (below key rs))) (Before (below key rs))) ≡ below key rs
-    by true true = unfold pick in refl
-    by true false = unfold pick in refl
-    by false u = unfold pick in refl
-
-pub found-inside : (key : ℕ) (rs : List Row) (r : Found) (i : ℕ) → Sought rs key r → r ≡ At i → i < length rs
-found-inside key rs r i q e = subst (Within rs) e (q .within)
-
-pub found-place : (key : ℕ) (rs : List Row) (r f : Found) → Sought rs key r → r ≡ f → placeOf f ≡ below key rs
-found-place key rs r f q e = ap placeOf (sym e ∙ q .is) ∙ place-found key rs
-
--- A KEY IS HELD IN THAT CHILD exactly as in the whole
+-- A KEY IS HELD IN THE CHILD that it goes to, exactly as in the whole
 
 module _ (k : ℕ) where
   held-front : {a : List Entry} (b : List Entry) → Under k a → held k (a ++ b) ≡ held k b
@@ -147,16 +103,17 @@ module _ (st : Settings) (W : List ℕ) (key : ℕ) where
     kids = map kid (rowsAt st W s)
 
     -- the tree of the child that the key goes to
-    lower : (i : ℕ) (row : Row) → Chosen key (rowsAt st W s) i → row ≡ getD (rowsAt st W s) i blank
-        → Grown st W h (childOf row) × (held key (entries (suc h) (kid row)) ≡ held key (entries (suc (suc h)) (treeAt (nodes st W) (suc h) s)))
-    lower i row c e =
-        let here : getD kids i (kid blank) ≡ kid row = at-map kid (rowsAt st W s) i blank (kid blank) (c .inside) ∙ ap kid (sym e) in
-        let inside : i < length kids = omega (arith, c .inside, length-map (rowsAt st W s) kid) in
-        let whole : Whole st (suc h) (kid row) = subst (Whole st (suc h)) here (all-at kids i (kid blank) inside (g .whole)) in
-        let place : i ≡ childFor key (map (rowFor (suc h)) kids) = c .is ∙ ap (childFor key) (rows-are st W (suc h) s g) in (
+    lower : (i c : ℕ) → Chosen (rowsAt st W s) 0 key i → c ≡ childOf (getD (rowsAt st W s) i blank)
+        → Grown st W h c × (held key (entries (suc h) (treeAt (nodes st W) h c)) ≡ held key (entries (suc (suc h)) (treeAt (nodes st W) (suc h) s)))
+    lower i c q e =
+        let here : getD kids i (kid blank) ≡ treeAt (nodes st W) h c =
+        at-map kid (rowsAt st W s) i blank (kid blank) (q .within) ∙ ap (treeAt (nodes st W) h) (sym e) in
+        let inside : i < length kids = omega (arith, q .within, length-map (rowsAt st W s) kid) in
+        let whole : Whole st (suc h) (treeAt (nodes st W) h c) = subst (Whole st (suc h)) here (all-at kids i (kid blank) inside (g .whole)) in
+        let place : i ≡ childFor key (map (rowFor (suc h)) kids) = omega (arith, q .is) ∙ ap (childFor key) (rows-are st W (suc h) s g) in (
           record {
             pool = g .pool;
-            tree = subst (λ (r : Row). Holds (nodes st W) h (kid r)) (sym e) (child-held (nodes st W) h s (g .tree) i (c .inside));
+            tree = subst (λ (n : ℕ). Holds (nodes st W) h (treeAt (nodes st W) h n)) (sym e) (child-held (nodes st W) h s (g .tree) i (q .within));
             some = λ ne. whole .0 .some;
             whole = whole .1;
             sorted = subst (λ (t : Tree h). Sorted (entries (suc h) t)) here (sorted-at (suc h) kids i (kid blank) inside (g .sorted));
@@ -166,15 +123,13 @@ module _ (st : Settings) (W : List ℕ) (key : ℕ) where
         )
 
   -- the same for a height that is not 0
-  pub descend : (h s i : ℕ) (row : Row) → 0 < h → Grown st W h s → Chosen key (rowsAt st W s) i → row ≡ getD (rowsAt st W s) i blank
-      → Grown st W (h - 1) (childOf row) ×
-      (held key (entries (suc (h - 1)) (treeAt (nodes st W) (h - 1) (childOf row))) ≡ held key (entries (suc h) (treeAt (nodes st W) h s)))
-  descend zero s i row p g c e = absurd (omega arith)
-  descend (suc h) s i row p g c e =
+  pub descend : (h s i c : ℕ) → 0 < h → Grown st W h s → Chosen (rowsAt st W s) 0 key i → c ≡ childOf (getD (rowsAt st W s) i blank)
+      → Grown st W (h - 1) c × (held key (entries (suc (h - 1)) (treeAt (nodes st W) (h - 1) c)) ≡ held key (entries (suc h) (treeAt (nodes st W) h s)))
+  descend zero s i c p g q e = absurd (omega arith)
+  descend (suc h) s i c p g q e =
       let down : h ≡ suc h - 1 = omega arith in
-      subst (λ (n : ℕ). Grown st W n (childOf row) ×
-      (held key (entries (suc n) (treeAt (nodes st W) n (childOf row))) ≡ held key (entries (suc (suc h)) (treeAt (nodes st W) (suc h) s)))) down
-      (lower h s g i row c e)
+      subst (λ (n : ℕ). Grown st W n c × (held key (entries (suc n) (treeAt (nodes st W) n c)) ≡ held key (entries (suc (suc h)) (treeAt (nodes st W) (suc h) s))))
+      down (lower h s g i c q e)
 
   pub arrive : (height h s : ℕ) → h ≤ 0 → Grown st W h s
       → held key (entries (suc h) (treeAt (nodes st W) h s)) ≡ held key (entries (suc height) (treeAt (nodes st W) height 0)) → Leads st W height key 0 s
@@ -182,6 +137,9 @@ module _ (st : Settings) (W : List ℕ) (key : ℕ) where
   arrive height (suc h) s p g e = absurd (omega arith)
 
 -- WHAT A SEARCH OF THE LEAF FINDS is what is listed
+
+pub found-inside : (key : ℕ) (rs : List Row) (r : Found) (i : ℕ) → Sought rs key r → r ≡ At i → i < length rs
+found-inside key rs r i q e = subst (Within rs) e (q .within)
 
 abbrev listFound : List Row → Found → List Entry
 listFound rs (At i) = entryOf (getD rs i blank) ∷ []

@@ -1,12 +1,8 @@
--- A key's way down a tree: the child that it goes to, and the leaf where it stands, if it is present. Assumes nothing.
+-- A key's way down a tree, to the leaf where it stands, if it is present. Assumes nothing.
 use Prim.Native.Nat.{ℕ, zero, suc, _<_}
 use mathlib.Core.Path.{_≡_}
 use mathlib.Core.Logic.{_≢_}
-use mathlib.Core.Bool.{cond}
-use mathlib.Core.List.{List, [], _∷_}
-use lib.ListN.{length}
-use lib.Dec.{ltb}
-use Rattle.slots_raw.specs.declared.Row.{Row}
+use mathlib.Core.List.{List}
 use Rattle.slots.specs.Nodes.{nodes, Held}
 use Rattle.model.specs.declared.Settings.{Settings}
 use Rattle.model.specs.Lists.{All}
@@ -14,16 +10,6 @@ use Rattle.model.specs.Tree.{len, entries}
 use Rattle.model.specs.Plain.{held}
 use Rattle.model.specs.Sound.{Whole, Sorted}
 use Rattle.tree.specs.Bridge.{Holds, treeAt}
-
--- the first child whose separator is not below the key, or the last
-abbrev pub childFor : ℕ → List Row → ℕ
-childFor key [] = 0
-childFor key (r ∷ []) = 0
-childFor key (r ∷ (x ∷ rs)) = cond (ltb (r .key) key) (suc (childFor key (x ∷ rs))) 0
-
-pub record Chosen (key : ℕ) (rs : List Row) (i : ℕ) : Type 0 where
-  pub is : i ≡ childFor key rs
-  pub inside : i < length rs
 
 -- the tree of height h in slot s can be searched: the nodes hold it, an interior has a child, no node below is empty, and the keys ascend
 pub record Grown (st : Settings) (W : List ℕ) (h s : ℕ) : Type 0 where

@@ -23,7 +23,7 @@ pub fn totals(pool: &[u8], st: Settings, height: usize) -> Totals
     requires { ⌜ InPool (now pool) st height ⌝ }
     ensures { λ r. ⌜ r ≡ totalsOf (indexOf (now (pool .entry))) ⌝ }
 {
-    tree_rows::stats(pool, st, height, 0)
+    tree_node::stats(pool, st, height, 0)
 }
 
 // Lists one entry for each key that is present (the Rust's `get`).

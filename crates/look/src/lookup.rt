@@ -2,21 +2,22 @@
 // anew needs no account of the way.)
 ghost use mathlib.Core.Path.{_≡_};
 ghost use mathlib.Core.Bool.{false};
-ghost use Prim.Native.Nat.{suc, _*_, _≤_, _<_};
+ghost use Prim.Native.Nat.{suc, _*_, _≤_};
 ghost use lib.ListN.{length};
 ghost use Rattle.words.specs.Words.{words};
-ghost use Rattle.slots.specs.Nodes.{nodes, rowsAt};
-ghost use Rattle.slots_find.specs.Search.{Sorted};
+ghost use Rattle.slots.specs.Nodes.{nodes};
 ghost use Rattle.model.specs.Tree.{entries};
 ghost use Rattle.model.specs.Plain.{held};
 ghost use Rattle.model.specs.Look.{found, present};
 ghost use Rattle.tree.specs.Bridge.{treeAt};
 ghost use Rattle.look_output.specs.Output.{page, enlistAll, freshPage};
-ghost use Rattle.look.specs.Lookup.{Grown, Leads, Chosen};
+ghost use Rattle.look.specs.Lookup.{Grown, Leads};
 use look_output::Listed;
 use look_output::list_row;
 use model::Settings;
 use slots_find::Found;
+use tree_node::child_at;
+use tree_node::child_for;
 
 // Lists the entries of the keys that are present, key after key, until the output is full and another is due.
 pub fn get_keys(
@@ -78,24 +79,9 @@ fn leaf_for(pool: &[u8], st: Settings, height: usize, key: u64) -> usize
     let mut s = 0;
     let mut h = height;
     while 0 < h {
-        let i = child_for(pool, st, s, key);
-        let row = slots::row_at(pool, st, s, i);
-        s = tree_rows::child_of(row);
+        let i = child_for(pool, st, s, 0, key);
+        s = child_at(pool, st, s, i);
         h -= 1;
     }
     s
-}
-
-// The child of node `s` where a key goes on: the first whose separator is not below it, or the last.
-fn child_for(pool: &[u8], st: Settings, s: usize, key: u64) -> usize
-    requires { ⌜ Sorted st (words (now pool)) s ⌝ }
-    requires { ⌜ 0 < length (rowsAt st (words (now pool)) s) ⌝ }
-    ensures { λ r. ⌜ Chosen key (rowsAt st (words (now (pool .entry))) s) r ⌝ }
-{
-    let n = slots::count(pool, st, s);
-    let sought = slots_find::search(pool, st, s, key);
-    match sought {
-        Found::At(i) => i,
-        Found::Before(i) => if i < n { i } else { n - 1 },
-    }
 }

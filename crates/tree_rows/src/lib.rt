@@ -1,38 +1,18 @@
-// What the words of a row mean, and what the rows of a node add up to. A leaf's row is an entry: its key, its place and its size. An
-// interior's row is a child: its greatest key, its slot beside its live and dead entries, and its size sum.
+// What the words of a row mean, and what a row adds to its node. A leaf's row is an entry: its key, its place and its size. An interior's row is
+// a child: its greatest key, its slot beside its live and dead entries, and its size sum.
 //
 // The crates of the index ask here, so that none but this one takes a child's row apart or puts one together, and those that read take no
 // leaf's row apart either.
 ghost use mathlib.Core.Path.{_≡_};
 ghost use Prim.Native.Nat.{_<_};
-ghost use Rattle.words.specs.Words.{words};
-ghost use Rattle.slots.specs.Nodes.{rowsAt};
 ghost use Rattle.model.specs.Answer.{Tells};
 ghost use Rattle.model.specs.Tree.{adds, plus};
 ghost use Rattle.tree.specs.Bridge.{entryOf, childOf, childRow, childTotals, rowTotals};
-ghost use Rattle.tree.specs.Sums.{sumRows, Addable, Packs, Weighs};
+ghost use Rattle.tree.specs.Sums.{Addable, Packs};
 use model::Entry;
-use model::Settings;
 use model::Totals;
 pub use model::no_totals;
 use slots_raw::Row;
-
-// The totals of the node of height `height` in slot `s`, from its rows alone (the Rust's `stats`).
-pub fn stats(pool: &[u8], st: Settings, height: usize, s: usize) -> Totals
-    requires { ⌜ Weighs st (words (now pool)) height s ⌝ }
-    ensures { λ r. ⌜ r ≡ sumRows height (rowsAt st (words (now (pool .entry))) s) ⌝ }
-{
-    let n = slots::count(pool, st, s);
-    let mut t = no_totals();
-    let mut i = 0;
-    while i < n {
-        let row = slots::row_at(pool, st, s, i);
-        let more = row_totals(height, row);
-        t = plus_totals(t, more);
-        i += 1;
-    }
-    t
-}
 
 // What a row of a node of height `height` adds to the node's totals.
 pub fn row_totals(height: usize, row: Row) -> Totals

@@ -23,7 +23,7 @@ use Rattle.batch_seek.proofs.ceiling_for.Reads as ceiling-for-reads
 use Rattle.batch_seek.proofs.changed_by.Reads as changed-by-reads
 use Rattle.batch_seek.proofs.result_of.Reads as result-of-reads
 use Rattle.batch_seek.proofs.roams_on.Reads as roams-on-reads
-use Rattle.batch_seek.proofs.seek_child.Reads as seek-child-reads
+use Rattle.tree_node.proofs.child_for.Reads as child-for-reads
 use Rattle.slots.proofs.count.Reads as count-reads
 use Rattle.slots.proofs.row_at.Reads as row-at-reads
 use Rattle.tree_rows.proofs.child_of.Reads as child-of-reads
@@ -65,8 +65,8 @@ abbrev ic : ℕ → interior-change-lts.Claims
 ic t = (
   roams-on-reads.Asked,
   roams-on-reads.Learnt,
-  seek-child-reads.Asked,
-  seek-child-reads.Learnt,
+  child-for-reads.Asked,
+  child-for-reads.Learnt,
   row-at-reads.Asked,
   row-at-reads.Learnt,
   child-of-reads.Asked,
@@ -124,8 +124,8 @@ interior-change-shared-slice-read-key t c =
     let asked = taken .before in
     next-in (asked .before .before .loop .inv .0) (sym (asked .roams-on .ensures) ∙ taken .if1 .taken)
 
-interior-change-seek-child-requires : (t : ℕ) → interior-change-lts.Need-seek-child-requires (ic t) (interior-change-at t) interior-change.Post interior-change-Inv-loop interior-change-μ-loop
-interior-change-seek-child-requires t c κs =
+interior-change-child-for-requires : (t : ℕ) → interior-change-lts.Need-child-for-requires (ic t) (interior-change-at t) interior-change.Post interior-change-Inv-loop interior-change-μ-loop
+interior-change-child-for-requires t c κs =
     let taken = c .before .before in
     let asked = taken .before in
     let at = asked .before .before in
@@ -136,7 +136,7 @@ interior-change-row-at-requires t c κs =
     let sought = c .before in
     let at = sought .before .before .before .before .before .before in
     let g = round-at (at .loop .inv .0) in
-    record { held = g .held; slot = g .slot; within = omega (arith, sought .seek-child .ensures .within) }
+    record { held = g .held; slot = g .slot; within = omega (arith, sought .child-for .ensures .within) }
 
 interior-change-child-of-requires : (t : ℕ) → interior-change-lts.Need-child-of-requires (ic t) (interior-change-at t) interior-change.Post interior-change-Inv-loop interior-change-μ-loop
 interior-change-child-of-requires t c κs = tt
@@ -156,7 +156,7 @@ interior-change-node-change-requires t c κs =
     let start = at .before .before .before .before .before .before in
     let r = round (at .loop .inv .0) (sym (asked .roams-on .ensures) ∙ taken .if1 .taken) in (
       omega (arith, start .pre .0),
-      child-call r (sought .seek-child .ensures) (row .row-at .ensures) (child .child-of .ensures) (reach .ceiling-for .ensures) _,
+      child-call r (sought .child-for .ensures) (row .row-at .ensures) (child .child-of .ensures) (reach .ceiling-for .ensures) _,
     )
 
 interior-change-settle-child-requires : (t : ℕ) → interior-change-lts.Need-settle-child-requires (ic t) (interior-change-at t) interior-change.Post interior-change-Inv-loop interior-change-μ-loop
@@ -170,7 +170,7 @@ interior-change-settle-child-requires t c κs =
     let asked = taken .before in
     let at = asked .before .before in
     let r = round (at .loop .inv .0) (sym (asked .roams-on .ensures) ∙ taken .if1 .taken) in
-    pending r (sought .seek-child .ensures) (row .row-at .ensures) (child .child-of .ensures) (reach .ceiling-for .ensures) (changed .node-change .ensures)
+    pending r (sought .child-for .ensures) (row .row-at .ensures) (child .child-of .ensures) (reach .ceiling-for .ensures) (changed .node-change .ensures)
 
 interior-change-changed-by-requires : (t : ℕ) → interior-change-lts.Need-changed-by-requires (ic t) (interior-change-at t) interior-change.Post interior-change-Inv-loop interior-change-μ-loop
 interior-change-changed-by-requires t c κs = tt
@@ -190,7 +190,7 @@ interior-change-loop-less t c =
     omega (
       arith,
       next-in (at .loop .inv .0) on,
-      round-less (round (at .loop .inv .0) on) (sought .seek-child .ensures) (row .row-at .ensures) (child .child-of .ensures) (reach .ceiling-for .ensures)
+      round-less (round (at .loop .inv .0) on) (sought .child-for .ensures) (row .row-at .ensures) (child .child-of .ensures) (reach .ceiling-for .ensures)
           (changed .node-change .ensures) (settled .settle-child .ensures),
     )
 
@@ -206,7 +206,7 @@ interior-change-loop-again t c =
     let asked = taken .before in
     let at = asked .before .before in
     let r = round (at .loop .inv .0) (sym (asked .roams-on .ensures) ∙ taken .if1 .taken) in (
-      round-again r (sought .seek-child .ensures) (row .row-at .ensures) (child .child-of .ensures) (reach .ceiling-for .ensures) (changed .node-change .ensures)
+      round-again r (sought .child-for .ensures) (row .row-at .ensures) (child .child-of .ensures) (reach .ceiling-for .ensures) (changed .node-change .ensures)
           (settled .settle-child .ensures) (c .changed-by .ensures),
       settled .settle-child .kept .0 ∙ changed .node-change .kept .0 ∙ at .loop .inv .1,
     )
@@ -285,7 +285,7 @@ pub +interior-change+node-change-spec : {M : Type 1} → statement M
     (interior-change-roams-on-requires t)
     (interior-change-mul-key t)
     (interior-change-shared-slice-read-key t)
-    (interior-change-seek-child-requires t)
+    (interior-change-child-for-requires t)
     (interior-change-row-at-requires t)
     (interior-change-child-of-requires t)
     (interior-change-ceiling-for-requires t)

@@ -2,39 +2,40 @@
 use mathlib.Core.Path.{refl}
 use borrow.Author.Needs.{needs}
 use Rattle.model.specs.declared.ChangeResult.the-variants.{Remove, Absorb, Split, Unchanged, Changed}
+use Rattle.batch_share.proofs.Places.{sits-row}
 use Rattle.batch_settle.proofs.Arms.{start-sits, start-renews, arm-asks, arm-stays, arm-ends}
 use Rattle.batch_settle.proofs.settle_child.Statement.{statement}
 use Rattle.batch_settle.proofs.settle_child.Tie as tie
 
 child-at-requires : tie.Need-child-at-requires
-child-at-requires c κs = start-sits (c .before .before .pre)
+child-at-requires c κs = sits-row (start-sits (c .before .before .pre))
 
 renew-requires : tie.Need-renew-requires
-renew-requires c κs = start-renews (c .before .before .before .before .pre) _ (c .before .child-at .ensures .is)
+renew-requires c κs = start-renews (c .before .before .before .before .pre) _ (c .before .child-at .ensures)
 
 take-out-requires : tie.Need-take-out-requires
 take-out-requires c κs =
     let renewed = c .before .before .before .before .before in
     let child = renewed .before .before in
-    arm-asks (child .before .before .before .pre) _ (child .child-at .ensures .is) _ (renewed .renew .ensures) Remove (c .before .enum-told2 .given .1)
+    arm-asks (child .before .before .before .pre) _ (child .child-at .ensures) _ (renewed .renew .ensures) Remove (c .before .enum-told2 .given .1)
 
 absorb-requires : tie.Need-absorb-requires
 absorb-requires c κs =
     let renewed = c .before .before .before .before .before in
     let child = renewed .before .before in
-    arm-asks (child .before .before .before .pre) _ (child .child-at .ensures .is) _ (renewed .renew .ensures) Absorb (c .before .enum-told3 .given .1)
+    arm-asks (child .before .before .before .pre) _ (child .child-at .ensures) _ (renewed .renew .ensures) Absorb (c .before .enum-told3 .given .1)
 
 share-out-requires : tie.Need-share-out-requires
 share-out-requires c κs =
     let renewed = c .before .before .before .before .before in
     let child = renewed .before .before in
-    arm-asks (child .before .before .before .pre) _ (child .child-at .ensures .is) _ (renewed .renew .ensures) Split (c .before .enum-told5 .given .1)
+    arm-asks (child .before .before .before .pre) _ (child .child-at .ensures) _ (renewed .renew .ensures) Split (c .before .enum-told5 .given .1)
 
 returns : tie.Need-returns
 returns c =
     let renewed = c .before .before .before .before in
     let child = renewed .before .before in
-    arm-stays (child .before .before .before .pre) _ (child .child-at .ensures .is) _ (renewed .renew .ensures) Unchanged _
+    arm-stays (child .before .before .before .pre) _ (child .child-at .ensures) _ (renewed .renew .ensures) Unchanged _
     (c .enum-told .given .1) refl refl refl
 
 returns-2 : tie.Need-returns-2
@@ -42,7 +43,7 @@ returns-2 c =
     let told = c .before .before .before .before in
     let renewed = told .before .before .before .before in
     let child = renewed .before .before in
-    arm-ends (child .before .before .before .pre) _ (child .child-at .ensures .is) _ (renewed .renew .ensures) Remove _ _ (told .enum-told2 .given .1)
+    arm-ends (child .before .before .before .pre) _ (child .child-at .ensures) _ (renewed .renew .ensures) Remove _ _ (told .enum-told2 .given .1)
     (c .before .before .take-out .ensures)
 
 returns-3 : tie.Need-returns-3
@@ -50,14 +51,14 @@ returns-3 c =
     let told = c .before .before .before .before in
     let renewed = told .before .before .before .before in
     let child = renewed .before .before in
-    arm-ends (child .before .before .before .pre) _ (child .child-at .ensures .is) _ (renewed .renew .ensures) Absorb _ _ (told .enum-told3 .given .1)
+    arm-ends (child .before .before .before .pre) _ (child .child-at .ensures) _ (renewed .renew .ensures) Absorb _ _ (told .enum-told3 .given .1)
     (c .before .before .absorb .ensures)
 
 returns-4 : tie.Need-returns-4
 returns-4 c =
     let renewed = c .before .before .before .before in
     let child = renewed .before .before in
-    arm-stays (child .before .before .before .pre) _ (child .child-at .ensures .is) _ (renewed .renew .ensures) Changed _
+    arm-stays (child .before .before .before .pre) _ (child .child-at .ensures) _ (renewed .renew .ensures) Changed _
     (c .enum-told4 .given .1) refl refl refl
 
 returns-5 : tie.Need-returns-5
@@ -65,7 +66,7 @@ returns-5 c =
     let told = c .before .before .before .before in
     let renewed = told .before .before .before .before in
     let child = renewed .before .before in
-    arm-ends (child .before .before .before .pre) _ (child .child-at .ensures .is) _ (renewed .renew .ensures) Split _ _ (told .enum-told5 .given .1)
+    arm-ends (child .before .before .before .pre) _ (child .child-at .ensures) _ (renewed .renew .ensures) Split _ _ (told .enum-told5 .given .1)
     (c .before .before .share-out .ensures)
 
 pub settle-child-spec : {M : Type 1} → statement M

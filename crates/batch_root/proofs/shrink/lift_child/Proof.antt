@@ -11,8 +11,7 @@ join-requires c κs =
     let gone = marked .before .before .before .before in
     let kind = gone .before .before in
     let child = kind .before in
-    let row = child .before in
-    to-join (row .before .before .before .pre) (row .row-at .ensures) (child .child-of .ensures) (kind .kind-for .ensures) (gone .remove-row .ensures)
+    to-join (child .before .before .before .pre) (child .child-at .ensures) (kind .kind-for .ensures) (gone .remove-row .ensures)
     (marked .set-kind .ensures)
 
 after-freeing-requires : tie.Need-after-freeing-requires
@@ -22,8 +21,7 @@ after-freeing-requires c κs =
     let gone = marked .before .before .before .before in
     let kind = gone .before .before in
     let child = kind .before in
-    let row = child .before in
-    let pre = row .before .before .before .pre in
+    let pre = child .before .before .before .pre in
     spared-few _ _ (pre .spared) (pre .keeps .held)
 
 returns : tie.Need-returns
@@ -33,15 +31,13 @@ returns c =
     let gone = marked .before .before .before .before in
     let kind = gone .before .before in
     let child = kind .before in
-    let row = child .before in
-    child-lifted (row .before .before .before .pre) (row .row-at .ensures) (child .child-of .ensures) (kind .kind-for .ensures) (gone .remove-row .ensures)
+    child-lifted (child .before .before .before .pre) (child .child-at .ensures) (kind .kind-for .ensures) (gone .remove-row .ensures)
     (marked .set-kind .ensures) (joined .join .ensures) (c .after-freeing .ensures)
 
 pub lift-child-spec : {M : Type 1} → statement M
 lift-child-spec =
     tie.close
     (tie.spec
-    (λ c κs. search needs)
     (λ c κs. search needs)
     (λ c κs. search needs)
     (λ c κs. search needs)

@@ -2,19 +2,36 @@
 use mathlib.Core.Path.{sym, _∙_}
 use native.Mathlib.Omega.{arith}
 use borrow.Author.Needs.{needs}
-use Rattle.batch_share.proofs.Turns.{apart-two, beside-few, sits-lower, sits-upper, moved-renews, moved-came}
+use Rattle.batch_share.proofs.Places.{sits-row}
+use Rattle.batch_share.proofs.Turns.{apart-two, beside-few, sits-lower, sits-upper, lower-named, upper-named, moved-renews, moved-came}
 use Rattle.batch_share.proofs.Cuts.{gave-back}
 use Rattle.batch_share.proofs.share.give_back.Statement.{statement}
 use Rattle.batch_share.proofs.share.give_back.Tie as tie
 
 child-at-requires : tie.Need-child-at-requires
-child-at-requires c κs = sits-lower (c .before .before .pre .0)
+child-at-requires c κs = sits-row (sits-lower (c .before .before .pre .0))
 
 add-child-at : tie.Need-add-child-at
 add-child-at c = omega (arith, beside-few (c .before .before .before .before .pre .0))
 
 child-at-requires-2 : tie.Need-child-at-requires-2
-child-at-requires-2 c κs = sits-upper (c .before .before .before .before .pre .0)
+child-at-requires-2 c κs = sits-row (sits-upper (c .before .before .before .before .pre .0))
+
+handed-requires : tie.Need-handed-requires
+handed-requires c κs =
+    let upper = c .before in
+    let lower = upper .before .before in
+    let start = lower .before .before .before in
+    let t = start .pre .0 in
+    let low = lower-named t (lower .child-at .ensures) in
+    let high = upper-named t (upper .child-at2 .ensures) in
+    record {
+      held = t .family .held;
+      slot = high .slot;
+      slot2 = low .slot;
+      some = omega (arith, high .count, start .pre .1 .1);
+      few = omega (arith, low .count, start .pre .1 .0);
+    }
 
 share-back-requires : tie.Need-share-back-requires
 share-back-requires c κs =
@@ -22,17 +39,19 @@ share-back-requires c κs =
     let lower = upper .before .before in
     let start = lower .before .before .before in
     let t = start .pre .0 in
+    let low = lower-named t (lower .child-at .ensures) in
+    let high = upper-named t (upper .child-at2 .ensures) in
     record {
       held = t .family .held;
-      slot = upper .child-at2 .ensures .slot;
-      slot2 = lower .child-at .ensures .slot;
-      apart = λ e. apart-two t (sym (lower .child-at .ensures .is) ∙ sym e ∙ upper .child-at2 .ensures .is);
+      slot = high .slot;
+      slot2 = low .slot;
+      apart = λ e. apart-two t (sym (low .is) ∙ sym e ∙ high .is);
       has = omega (arith, c .before .handed .ensures);
       room = omega (
         arith,
         c .before .handed .ensures,
-        lower .child-at .ensures .count,
-        upper .child-at2 .ensures .count,
+        low .count,
+        high .count,
         start .pre .1 .0,
         start .pre .1 .1,
       );
@@ -46,7 +65,7 @@ renew-two-requires c κs =
     let lower = upper .before .before in
     let t = lower .before .before .before .pre .0 in
     moved-renews t
-    (gave-back t _ _ _ (lower .child-at .ensures .is) (upper .child-at2 .ensures .is) _ (handed .handed .ensures) (moved .share-back .ensures))
+    (gave-back t _ _ _ (lower-named t (lower .child-at .ensures) .is) (upper-named t (upper .child-at2 .ensures) .is) _ (handed .handed .ensures) (moved .share-back .ensures))
 
 returns : tie.Need-returns
 returns c =
@@ -56,7 +75,7 @@ returns c =
     let lower = upper .before .before in
     let t = lower .before .before .before .pre .0 in
     moved-came t
-    (gave-back t _ _ _ (lower .child-at .ensures .is) (upper .child-at2 .ensures .is) _ (handed .handed .ensures) (moved .share-back .ensures)) _
+    (gave-back t _ _ _ (lower-named t (lower .child-at .ensures) .is) (upper-named t (upper .child-at2 .ensures) .is) _ (handed .handed .ensures) (moved .share-back .ensures)) _
     (c .before .before .renew-two .ensures)
 
 pub give-back-spec : {M : Type 1} → statement M
@@ -66,7 +85,7 @@ give-back-spec =
     child-at-requires
     add-child-at
     child-at-requires-2
-    (λ c κs. search needs)
+    handed-requires
     share-back-requires
     renew-two-requires
     (λ c. search needs)

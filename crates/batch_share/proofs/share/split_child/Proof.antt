@@ -1,21 +1,25 @@
 -- `split_child` meets its contract: each step does to the pool what the model's split of the child does to the family (`Halves`). Assumes nothing.
 use native.Mathlib.Omega.{arith}
 use borrow.Author.Needs.{needs}
-use Rattle.batch_share.proofs.Focuses.{poise-focus, focus-sits, focus-few}
+use Rattle.batch_share.proofs.Places.{sits-row}
+use Rattle.batch_share.proofs.Focuses.{poise-focus, focus-sits, child-named, focus-few}
 use Rattle.batch_share.proofs.Halves.{can-split, upper-weighs, upper-room, lower-renews, half-taken, half-left}
 use Rattle.batch_share.proofs.share.split_child.Statement.{statement}
 use Rattle.batch_share.proofs.share.split_child.Tie as tie
 
 child-at-requires : tie.Need-child-at-requires
-child-at-requires c κs = focus-sits (poise-focus (c .before .before .pre))
+child-at-requires c κs = sits-row (focus-sits (poise-focus (c .before .before .pre)))
 
 split-requires : tie.Need-split-requires
-split-requires c κs = can-split (c .before .before .before .before .pre) _ (c .before .child-at .ensures .is)
+split-requires c κs =
+    let t = c .before .before .before .before .pre in
+    can-split t _ (child-named (poise-focus t) (c .before .child-at .ensures) .is)
 
 weigh-requires : tie.Need-weigh-requires
 weigh-requires c κs =
     let child = c .before .before .before .before .before in
-    upper-weighs (child .before .before .before .pre) _ (child .child-at .ensures .is) _ (c .before .before .before .split .ensures)
+    let t = child .before .before .before .pre in
+    upper-weighs t _ (child-named (poise-focus t) (child .child-at .ensures) .is) _ (c .before .before .before .split .ensures)
 
 add-insert-row : tie.Need-add-insert-row
 add-insert-row c =
@@ -26,7 +30,8 @@ insert-row-requires : tie.Need-insert-row-requires
 insert-row-requires c κs =
     let cut = c .before .before .before .before .before in
     let child = cut .before .before in
-    upper-room (child .before .before .before .pre) _ (child .child-at .ensures .is) _ (cut .split .ensures)
+    let t = child .before .before .before .pre in
+    upper-room t _ (child-named (poise-focus t) (child .child-at .ensures) .is) _ (cut .split .ensures)
 
 renew-requires : tie.Need-renew-requires
 renew-requires c κs =
@@ -34,7 +39,8 @@ renew-requires c κs =
     let weighed = put .before .before in
     let cut = weighed .before .before .before .before in
     let child = cut .before .before in
-    lower-renews (child .before .before .before .pre) _ (child .child-at .ensures .is) _ (cut .split .ensures) _ (weighed .weigh .ensures) _
+    let t = child .before .before .before .pre in
+    lower-renews t _ (child-named (poise-focus t) (child .child-at .ensures) .is) _ (cut .split .ensures) _ (weighed .weigh .ensures) _
     (put .insert-row .ensures)
 
 after-taking-requires : tie.Need-after-taking-requires
@@ -44,7 +50,8 @@ after-taking-requires c κs =
     let weighed = put .before .before in
     let cut = weighed .before .before .before .before in
     let child = cut .before .before in
-    half-taken (child .before .before .before .pre) _ (child .child-at .ensures .is) _ (cut .split .ensures) _ (weighed .weigh .ensures) _
+    let t = child .before .before .before .pre in
+    half-taken t _ (child-named (poise-focus t) (child .child-at .ensures) .is) _ (cut .split .ensures) _ (weighed .weigh .ensures) _
     (put .insert-row .ensures) _ (renewed .renew .ensures)
 
 returns : tie.Need-returns
@@ -54,7 +61,8 @@ returns c =
     let weighed = put .before .before in
     let cut = weighed .before .before .before .before in
     let child = cut .before .before in
-    half-left (child .before .before .before .pre) _ (child .child-at .ensures .is) _ (cut .split .ensures) _ (weighed .weigh .ensures) _
+    let t = child .before .before .before .pre in
+    half-left t _ (child-named (poise-focus t) (child .child-at .ensures) .is) _ (cut .split .ensures) _ (weighed .weigh .ensures) _
     (put .insert-row .ensures) _ (renewed .renew .ensures) _ (c .after-taking .ensures)
 
 pub split-child-spec : {M : Type 1} → statement M

@@ -7,7 +7,7 @@ use Rattle.words.specs.Words.{words}
 use Rattle.slots.specs.Nodes.{nodes, nth}
 use Rattle.slots_raw.specs.Slots.{blank}
 use Rattle.frame.proofs.Noded.{under-leaf}
-use Rattle.frame.proofs.Walks.{nodes-child}
+use Rattle.frame.proofs.Walks.{standing-row, standing-down, nodes-child}
 use Rattle.frame.proofs.node.nodes_under.Statement.{statement}
 use Rattle.frame.proofs.node.nodes_under.Tie as tie
 
@@ -25,8 +25,21 @@ returns-2 c =
     let W = words (a .pool .now) in
     let ns = nodes (a .st) W in
     let rs = nth ns (a .s) .rows in
-    c .nodes-in .ensures ∙ nodes-child ns (a .height) (c .before .child-at .result) (getD rs (a .j) blank) (omega arith) (c .before .child-at .ensures .0)
+    c .nodes-in .ensures ∙ nodes-child ns (a .height) (c .before .child-at .result) (getD rs (a .j) blank) (omega arith) (c .before .child-at .ensures)
+
+child-at-requires : tie.Need-child-at-requires
+child-at-requires c κs =
+    let start = c .before .before in
+    let a = start .args in
+    standing-row (a .st) (words (a .pool .now)) (a .height) (a .s) (a .j) (start .pre .0) (start .pre .1)
+
+nodes-in-requires : tie.Need-nodes-in-requires
+nodes-in-requires c κs =
+    let start = c .before .before .before in
+    let a = start .args in
+    standing-down (a .st) (words (a .pool .now)) (a .height) (a .s) (a .j) (c .child-at .result) (start .pre .0) (omega arith) (start .pre .1)
+    (c .child-at .ensures)
 
 pub nodes-under-spec : {M : Type 1} → statement M
 nodes-under-spec =
-    tie.close (tie.spec returns (λ c κs. search needs) (λ c. search needs) (λ c κs. search needs) returns-2)
+    tie.close (tie.spec returns child-at-requires (λ c. search needs) nodes-in-requires returns-2)

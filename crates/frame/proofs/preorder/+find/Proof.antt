@@ -12,11 +12,11 @@ use Rattle.slots.proofs.count.Reads as count-reads
 use Rattle.frame.specs.Walk.{Finds}
 use Rattle.frame.specs.declared.Found.the-variants.{Node}
 use Rattle.frame.specs.declared.Found.{Found}
-use Rattle.frame.proofs.Walks.{passed, passed-all, passed-leaf, standing-at, found-here, found-none, found-below, passed-below}
+use Rattle.frame.proofs.Walks.{passed, passed-all, passed-leaf, standing-at, standing-row, standing-down, found-here, found-none, found-below, passed-below}
 use Rattle.frame.proofs.preorder.find.Reads as find
 use Rattle.frame.proofs.preorder.find.Kinds as find-kinds
 use Rattle.frame.proofs.preorder.+find.Lts-find as find-lts
-use Rattle.frame.proofs.preorder.child_at.Reads as child-at-reads
+use Rattle.tree_node.proofs.child_at.Reads as child-at-reads
 use Rattle.frame.proofs.preorder.+find.{statement}
 use Rattle.frame.proofs.preorder.+find.Tie.{close}
 
@@ -63,10 +63,19 @@ find-loop-holds : (t : ℕ) → find-lts.Need-loop-holds (callees t) (find-at t)
 find-loop-holds t c = (omega arith, omega arith)
 
 find-child-at-requires : (t : ℕ) → find-lts.Need-child-at-requires (callees t) (find-at t) find.Post find-Inv-loop find-μ-loop
-find-child-at-requires t c κs = (c .before .before .before .before .before .before .pre .1, (omega arith, omega arith))
+find-child-at-requires t c κs =
+    let start = c .before .before .before .before .before .before in
+    let a = start .args in
+    standing-row (a .st) (words (a .pool .now)) (a .height) (a .s) (c .before .loop .j) (start .pre .1) (omega arith)
 
 find-find-requires : (t : ℕ) → find-lts.Need-find-requires (callees t) (find-at t) find.Post find-Inv-loop find-μ-loop
-find-find-requires t c κs = (omega (arith, c .before .before .before .before .before .before .before .pre .0), c .child-at .ensures .1)
+find-find-requires t c κs =
+    let start = c .before .before .before .before .before .before .before in
+    let a = start .args in (
+      omega (arith, start .pre .0),
+      standing-down (a .st) (words (a .pool .now)) (a .height) (a .s) (c .before .before .loop .j) (c .child-at .result) (start .pre .1) (omega arith)
+          (omega arith) (c .child-at .ensures),
+    )
 
 find-returns-3 : (t : ℕ) → find-lts.Need-returns-3 (callees t) (find-at t) find.Post find-Inv-loop find-μ-loop
 find-returns-3 t c =
@@ -80,7 +89,7 @@ find-returns-3 t c =
     let h = loop .loop in
     let kid = down .child-at in
     found-below (a .st) W (a .height) (a .s) (a .i) (h .j) (h .left) (kid .result) (found .t .given .0 .0) (found .t .given .0 .1 .0) (omega arith)
-    (omega arith) (kid .ensures .0) (h .inv .1)
+    (omega arith) (kid .ensures) (h .inv .1)
     (subst (λ (x : Found). Finds (a .st) W (a .height - 1) (kid .result) (h .left) x) (found .t .given .1) (sought .find .ensures))
 
 find-loop-again : (t : ℕ) → find-lts.Need-loop-again (callees t) (find-at t) find.Post find-Inv-loop find-μ-loop
@@ -96,7 +105,7 @@ find-loop-again t c =
     let kid = down .child-at in (
       omega arith,
       passed-below (a .st) W (a .height) (a .s) (a .i) (h .j) (h .left) (kid .result) (passed .k .given .0 .0) (omega arith) (omega arith)
-          (kid .ensures .0) (h .inv .1)
+          (kid .ensures) (h .inv .1)
           (subst (λ (x : Found). Finds (a .st) W (a .height - 1) (kid .result) (h .left) x) (passed .k .given .1) (sought .find .ensures)),
     )
 

@@ -10,11 +10,11 @@ use Rattle.words.specs.Words.{words}
 use Rattle.slots.specs.Nodes.{nodes, nth}
 use Rattle.slots_raw.specs.Slots.{blank}
 use Rattle.slots.proofs.count.Reads as count-reads
-use Rattle.frame.proofs.Walks.{passed, passed-more, passed-all, passed-few, passed-leaf, nodes-tree, nodes-child, standing-at}
+use Rattle.frame.proofs.Walks.{passed, passed-more, passed-all, passed-few, passed-leaf, nodes-tree, nodes-child, standing-at, standing-row, standing-down}
 use Rattle.frame.proofs.preorder.nodes_in.Reads as nodes-in
 use Rattle.frame.proofs.preorder.nodes_in.Kinds as nodes-in-kinds
 use Rattle.frame.proofs.preorder.+nodes_in.Lts-nodes_in as nodes-in-lts
-use Rattle.frame.proofs.preorder.child_at.Reads as child-at-reads
+use Rattle.tree_node.proofs.child_at.Reads as child-at-reads
 use Rattle.frame.proofs.preorder.+nodes_in.{statement}
 use Rattle.frame.proofs.preorder.+nodes_in.Tie.{close}
 
@@ -55,10 +55,19 @@ nodes-in-loop-holds : (t : ℕ) → nodes-in-lts.Need-loop-holds (callees t) (no
 nodes-in-loop-holds t c = (omega arith, refl)
 
 nodes-in-child-at-requires : (t : ℕ) → nodes-in-lts.Need-child-at-requires (callees t) (nodes-in-at t) nodes-in.Post nodes-in-Inv-loop nodes-in-μ-loop
-nodes-in-child-at-requires t c κs = (c .before .before .before .before .before .pre .1, (omega arith, omega arith))
+nodes-in-child-at-requires t c κs =
+    let start = c .before .before .before .before .before in
+    let a = start .args in
+    standing-row (a .st) (words (a .pool .now)) (a .height) (a .s) (c .before .loop .j) (start .pre .1) (omega arith)
 
 nodes-in-nodes-in-requires : (t : ℕ) → nodes-in-lts.Need-nodes-in-requires (callees t) (nodes-in-at t) nodes-in.Post nodes-in-Inv-loop nodes-in-μ-loop
-nodes-in-nodes-in-requires t c κs = (omega (arith, c .before .before .before .before .before .before .pre .0), c .child-at .ensures .1)
+nodes-in-nodes-in-requires t c κs =
+    let start = c .before .before .before .before .before .before in
+    let a = start .args in (
+      omega (arith, start .pre .0),
+      standing-down (a .st) (words (a .pool .now)) (a .height) (a .s) (c .before .before .loop .j) (c .child-at .result) (start .pre .1) (omega arith)
+          (omega arith) (c .child-at .ensures),
+    )
 
 -- with the child that was counted the children before the next one have as many nodes more
 more : (t : ℕ) (c : nodes-in-lts.After-nodes-in (callees t) (nodes-in-at t) nodes-in.Post nodes-in-Inv-loop nodes-in-μ-loop) →
@@ -77,7 +86,7 @@ more t c =
     omega (
       arith,
       c .nodes-in .ensures,
-      nodes-child ns (a .height) (kid .result) (getD rs j blank) (omega arith) (kid .ensures .0),
+      nodes-child ns (a .height) (kid .result) (getD rs j blank) (omega arith) (kid .ensures),
       passed-more ns (a .height) rs j (omega arith),
     )
 

@@ -1,6 +1,6 @@
 -- `leaf_for` meets its contract. The loop's invariant: the tree in slot `s` can be searched, and the key is held there as in the whole. Assumes nothing.
-use mathlib.Core.Path.{_≡_, refl, sym, _∙_, subst}
-use Prim.Native.Nat.{ℕ, suc, _-_}
+use mathlib.Core.Path.{_≡_, refl, _∙_}
+use Prim.Native.Nat.{suc}
 use native.Mathlib.Omega.{arith}
 use Rattle.words.specs.Words.{words}
 use Rattle.slots.specs.Nodes.{nodes}
@@ -26,29 +26,27 @@ loop-holds c = (c .before .pre, refl)
 child-for-requires : tie.Need-child-for-requires Inv-loop μ-loop
 child-for-requires c κs =
     let a = c .before .before .before .args in
-    let at = c .before .loop in (
-      grown-sorted (a .st) (words (a .pool .now)) (at .h) (at .s) (at .inv .0),
+    let at = c .before .loop in
+    let s = grown-sorted (a .st) (words (a .pool .now)) (at .h) (at .s) (at .inv .0) in (
+      record { held = s .held; slot = s .slot },
       grown-some (a .st) (words (a .pool .now)) (at .h) (at .s) (at .inv .0) (λ e. omega (arith, c .loop-test .taken)),
     )
 
-row-at-requires : tie.Need-row-at-requires Inv-loop μ-loop
-row-at-requires c κs =
+child-at-requires : tie.Need-child-at-requires Inv-loop μ-loop
+child-at-requires c κs =
     let a = c .before .before .before .before .args in
     let at = c .before .before .loop in
     let s = grown-sorted (a .st) (words (a .pool .now)) (at .h) (at .s) (at .inv .0) in
-    record { held = s .held; slot = s .slot; within = omega (arith, c .child-for .ensures .inside) }
+    record { held = s .held; slot = s .slot; within = omega (arith, c .child-for .ensures .within) }
 
 loop-again : tie.Need-loop-again Inv-loop μ-loop
 loop-again c =
-    let a = c .before .before .before .before .before .before .args in
-    let at = c .before .before .before .before .loop in
-    let ns = nodes (a .st) (words (a .pool .now)) in
+    let a = c .before .before .before .before .before .args in
+    let at = c .before .before .before .loop in
     let down =
-    descend (a .st) (words (a .pool .now)) (a .key) (at .h) (at .s) (c .before .before .child-for .result) (c .before .row-at .result)
-    (c .before .before .before .loop-test .taken) (at .inv .0) (c .before .before .child-for .ensures) (c .before .row-at .ensures) in
-    subst (λ (t : ℕ). Grown (a .st) (words (a .pool .now)) (at .h - 1) t ×
-    (held (a .key) (entries (suc (at .h - 1)) (treeAt ns (at .h - 1) t)) ≡ held (a .key) (entries (suc (a .height)) (treeAt ns (a .height) 0))))
-    (sym (c .child-of .ensures)) (down .0, down .1 ∙ at .inv .1)
+    descend (a .st) (words (a .pool .now)) (a .key) (at .h) (at .s) (c .before .child-for .result) (c .child-at .result)
+    (c .before .before .loop-test .taken) (at .inv .0) (c .before .child-for .ensures) (c .child-at .ensures) in
+    (down .0, down .1 ∙ at .inv .1)
 
 returns : tie.Need-returns Inv-loop μ-loop
 returns c =
@@ -64,8 +62,7 @@ leaf-for-spec =
     μ-loop
     loop-holds
     child-for-requires
-    row-at-requires
-    (λ c κs. tt)
+    child-at-requires
     (λ c. omega arith)
     (λ c. omega arith)
     loop-again

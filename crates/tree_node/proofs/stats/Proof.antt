@@ -11,8 +11,8 @@ use Rattle.model.specs.Tree.{plus}
 use Rattle.model.proofs.Trees.{zero-plus}
 use Rattle.tree.specs.Sums.{sumRows}
 use Rattle.tree.proofs.Sums.{sum-more, sum-fits, sum-all}
-use Rattle.tree_rows.proofs.stats.Statement.{statement}
-use Rattle.tree_rows.proofs.stats.Tie as tie
+use Rattle.tree_node.proofs.stats.Statement.{statement}
+use Rattle.tree_node.proofs.stats.Tie as tie
 
 abbrev Inv-loop : tie.InvT-loop
 Inv-loop pool st height s n t₀ i₀ t i =

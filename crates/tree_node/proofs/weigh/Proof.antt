@@ -7,9 +7,9 @@ use Rattle.words.specs.Words.{words}
 use Rattle.slots.specs.Nodes.{rowsAt}
 use Rattle.model.specs.declared.Totals.{Totals}
 use Rattle.tree.specs.Bridge.{childRow}
-use Rattle.batch_share.specs.Weigh.{lastKey}
-use Rattle.batch_share.proofs.weigh.weigh.Statement.{statement}
-use Rattle.batch_share.proofs.weigh.weigh.Tie as tie
+use Rattle.tree_node.specs.Ask.{lastKey}
+use Rattle.tree_node.proofs.weigh.Statement.{statement}
+use Rattle.tree_node.proofs.weigh.Tie as tie
 
 child-row-requires : tie.Need-child-row-requires
 child-row-requires c κs =
@@ -26,8 +26,8 @@ returns : tie.Need-returns
 returns c =
     let a = c .before .before .before .before .args in
     c .child-row .ensures
-    ∙ ap (λ (key : ℕ). childRow key (a .c) (c .before .stats .result)) (c .before .before .last-key .ensures)
-    ∙ ap (childRow (lastKey (rowsAt (a .st) (words (a .pool .now)) (a .c))) (a .c)) (c .before .stats .ensures)
+    ∙ ap (λ (key : ℕ). childRow key (a .s) (c .before .stats .result)) (c .before .before .last-key .ensures)
+    ∙ ap (childRow (lastKey (rowsAt (a .st) (words (a .pool .now)) (a .s))) (a .s)) (c .before .stats .ensures)
 
 pub weigh-spec : {M : Type 1} → statement M
 weigh-spec = tie.close (tie.spec (λ c κs. search needs) (λ c κs. search needs) child-row-requires returns)
