@@ -17,6 +17,7 @@ use batch_share::weigh::child_len;
 use batch_share::weigh::renew;
 use batch_share::weigh::renew_two;
 use model::Settings;
+use model::half;
 use tree_node::child_at;
 use tree_spare::Spare;
 use tree_spare::after_freeing;
@@ -100,7 +101,7 @@ fn level(pool: &mut [u8], st: Settings, p: usize, c: usize)
 {
     let m = slots::count(pool, st, p);
     let n = slots::count(pool, st, c);
-    let keep = (m + n + 1) / 2;
+    let keep = half(m + n);
     if m < keep {
         slots_pair::share_back(pool, st, p, c, keep - m);
         return;

@@ -4,12 +4,13 @@ use mathlib.Core.List.{List}
 use Prim.Native.Nat.{ℕ, _<_}
 use native.Mathlib.Omega.{arith}
 use lib.ListN.{length}
-use Rattle.slots.specs.Nodes.{Now, nodes, nth, splitNodes}
+use Rattle.slots.specs.Nodes.{Now, nodes, nth, rowsAt, splitNodes}
 use Rattle.slots.specs.Nodes as S
 use Rattle.slots_find.specs.Search.{Lowest}
 use Rattle.slots.proofs.Nodes.{length-nodes}
 use Rattle.model.specs.declared.Settings.{Settings}
-use Rattle.model.specs.Tree.{Tree, others}
+use Rattle.model.specs.Tree.{Tree, len, others}
+use Rattle.model.specs.Share.{half}
 use Rattle.model.proofs.Lists.{all-head}
 use Rattle.model.proofs.Settles.{length-others}
 use Rattle.tree.specs.Bridge.{treeAt, unusedOf}
@@ -87,19 +88,24 @@ module _ {st : Settings} {W₀ : List ℕ} {h : ℕ} {spare : Spare} (pre : Spli
       b-in : b < length (moved ns a)
       b-in = omega (arith, length-nodes st W₁, ap length (mv .is), b-nodes)
 
-      pub to-split : S.Split st W₁ a b
-      to-split =
+      -- the moved root has the rows of the root
+      long : length (rowsAt st W₁ a) ≡ len t
+      long = ap (λ (z : List S.Node). length (nth z a .rows)) (mv .is) ∙ H.whole-long top second b-in
+
+      pub to-split : {n k : ℕ} → n ≡ length (rowsAt st W₁ a) → k ≡ half n → S.Split st W₁ a b k
+      to-split en ek =
           record {
             held = mv .held;
             slot = a-nodes;
             slot2 = b-nodes;
             apart = H.a-b top second b-in;
             free = ap (λ (z : List S.Node). nth z b) (mv .is) ∙ H.b-unused top second b-in;
+            within = omega (arith, en, ek);
           }
 
-      module _ {W₂ : List ℕ} (sp : Now st W₁ W₂ (splitNodes (nodes st W₁) a b)) where
-        split-is : nodes st W₂ ≡ splitNodes (moved ns a) a b
-        split-is = sp .is ∙ ap (λ (z : List S.Node). splitNodes z a b) (mv .is)
+      module _ {n k : ℕ} (en : n ≡ length (rowsAt st W₁ a)) (ek : k ≡ half n) {W₂ : List ℕ} (sp : Now st W₁ W₂ (splitNodes (nodes st W₁) a b k)) where
+        split-is : nodes st W₂ ≡ splitNodes (moved ns a) a b (half (len t))
+        split-is = sp .is ∙ (λ j. splitNodes (mv .is j) a b ((ek ∙ ap half (en ∙ long)) j))
 
         pub to-crown : Crowns st W₂ h a b
         to-crown =

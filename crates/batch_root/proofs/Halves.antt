@@ -3,9 +3,9 @@
 use mathlib.Core.Path.{_≡_, sym, ap, _∙_, subst}
 use mathlib.Core.Logic.{_≢_}
 use mathlib.Core.List.{List, [], _∷_, _++_}
-use Prim.Native.Nat.{ℕ, suc, _+_, _/_, _≤_, _<_}
+use Prim.Native.Nat.{ℕ, suc, _+_, _≤_, _<_}
 use native.Mathlib.Omega.{arith}
-use lib.ListN.{length, take, drop, set, length-map, take-append-drop}
+use lib.ListN.{length, take, drop, set, take-append-drop}
 use lib.Seq.{getD-set-other}
 use Rattle.slots_raw.specs.declared.Row.{Row}
 use Rattle.slots.specs.Nodes.{nth, unused, withRows, splitNodes}
@@ -27,7 +27,7 @@ use Rattle.tree_node.specs.Ask.{rowOver}
 use Rattle.batch_share.specs.Steps.{Bounded}
 use Rattle.tree_node.proofs.Weights.{row-over}
 use Rattle.batch_share.proofs.Weights.{sums-fit, bounded-left, bounded-right}
-use Rattle.batch_share.proofs.Places.{node-used}
+use Rattle.batch_share.proofs.Places.{node-used, node-len}
 use Rattle.batch_share.proofs.Puts.{put-first, put-second, put-other, blank-set}
 use Rattle.batch_root.specs.Roots.{moved, crowned}
 use Rattle.batch_root.proofs.Sets.{no-blank, unused-same}
@@ -105,16 +105,16 @@ module _ {ns : List S.Node} {h : ℕ} {t : Tree h} {a : ℕ} (p : Top ns h t a) 
     upper = record { slot = b; items = high-items }
 
     abbrev split : List S.Node
-    split = splitNodes (moved ns a) a b
+    split = splitNodes (moved ns a) a b (half (len t))
 
     abbrev whole : S.Node
     whole = nth (moved ns a) a
 
     abbrev high : S.Node
-    high = withRows whole (drop ((length (whole .rows) + 1) / 2) (whole .rows))
+    high = withRows whole (drop (half (len t)) (whole .rows))
 
     abbrev low : S.Node
-    low = withRows whole (take ((length (whole .rows) + 1) / 2) (whole .rows))
+    low = withRows whole (take (half (len t)) (whole .rows))
 
     whole-is : whole ≡ nodeFor h t
     whole-is = moved-here ∙ node
@@ -125,19 +125,19 @@ module _ {ns : List S.Node} {h : ℕ} {t : Tree h} {a : ℕ} (p : Top ns h t a) 
     a-in : a < length (moved ns a)
     a-in = used-in (moved ns a) a whole-used
 
-    middle : (length (whole .rows) + 1) / 2 ≡ half (len t)
-    middle = ap (λ (m : S.Node). (length (m .rows) + 1) / 2) whole-is ∙ ap (λ (j : ℕ). (j + 1) / 2) (length-map (t .items) (rowFor h))
+    pub whole-long : length (whole .rows) ≡ len t
+    whole-long = node-len (moved ns a) h a t whole-is
 
     split-lower : nth split a ≡ nodeFor h lower
     split-lower =
         put-second (moved ns a) b high a low a-in
-        ∙ ap (λ (j : ℕ). withRows whole (take j (whole .rows))) middle ∙ ap (λ (m : S.Node). withRows m (take (half (len t)) (m .rows))) whole-is
+        ∙ ap (λ (m : S.Node). withRows m (take (half (len t)) (m .rows))) whole-is
         ∙ ap (λ (l : List Row). record { kind = kindFor h; rows = l }) (sym (map-take (rowFor h) (half (len t)) (t .items)))
 
     split-upper : nth split b ≡ nodeFor h upper
     split-upper =
         put-first (moved ns a) b high a low (λ e. a-b (sym e)) b-in
-        ∙ ap (λ (j : ℕ). withRows whole (drop j (whole .rows))) middle ∙ ap (λ (m : S.Node). withRows m (drop (half (len t)) (m .rows))) whole-is
+        ∙ ap (λ (m : S.Node). withRows m (drop (half (len t)) (m .rows))) whole-is
         ∙ ap (λ (l : List Row). record { kind = kindFor h; rows = l }) (sym (map-drop (rowFor h) (half (len t)) (t .items)))
 
     split-root : nth split 0 ≡ bare

@@ -3,6 +3,7 @@ ghost use Rattle.words.specs.Words.{words};
 ghost use Rattle.slots.specs.Nodes.{Now, nodes};
 ghost use Rattle.batch_root.specs.Roots.{Splits, Halved, Moves, moved, Crowns, crowned};
 use model::Settings;
+use model::half;
 use slots::INTERIOR;
 use tree_node::weigh;
 use tree_spare::Spare;
@@ -16,7 +17,9 @@ pub fn split_root(pool: &mut [u8], st: Settings, height: usize, spare: Spare) ->
 {
     move_root(pool, st, spare.low);
     let rest = after_taking(pool, st, spare);
-    slots_pair::split(pool, st, spare.low, rest.low);
+    let n = slots::count(pool, st, spare.low);
+    let keep = half(n);
+    slots_pair::split(pool, st, spare.low, rest.low, keep);
     crown(pool, st, height, spare.low, rest.low);
     after_taking(pool, st, rest)
 }

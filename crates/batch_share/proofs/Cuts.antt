@@ -2,12 +2,12 @@
 use mathlib.Core.Path.{_≡_, refl, sym, ap, _∙_}
 use mathlib.Core.Logic.{_≢_}
 use mathlib.Core.List.{List, _++_, map}
-use Prim.Native.Nat.{ℕ, _+_, _-_, _/_, _≤_, _<_, min}
+use Prim.Native.Nat.{ℕ, _+_, _-_, _≤_, _<_, min}
 use native.Mathlib.Omega.{arith}
 use lib.ListN.{length, take, drop, length-map, length-append, take-append-drop}
 use lib.Seq.{set-comm, take-append-add, drop-append-add, take-append-le, drop-append-le}
 use Rattle.slots_raw.specs.declared.Row.{Row}
-use Rattle.slots.specs.Nodes.{nodes, nth, rowsAt, put2, withRows, lower, backNodes, forwardNodes, Now}
+use Rattle.slots.specs.Nodes.{nodes, nth, rowsAt, put2, withRows, backNodes, forwardNodes, Now}
 use Rattle.slots.specs.Nodes as S
 use Rattle.slots.proofs.Nodes.{become}
 use Rattle.slots_raw.proofs.Over.{map-append, map-take, map-drop}
@@ -78,16 +78,16 @@ module _ (ns : List S.Node) (h : ℕ) (p c : Tree h) (op : nth ns (p .slot) ≡ 
       let k : ℕ = half (len (both h p c)) in
       let cut : List Row → ℕ → List S.Node = λ l m. put (take m l) (drop m l) in
       let rows : f (p .items) ++ f (c .items) ≡ f (p .items ++ c .items) = sym (map-append (rowFor h) (p .items) (c .items)) in
-      let long : lower (f (p .items ++ c .items)) ≡ half (len (both h p c)) = ap (λ (m : ℕ). (m + 1) / 2) (length-map (p .items ++ c .items) (rowFor h)) in
+      let long : half (length (f (p .items ++ c .items))) ≡ half (len (both h p c)) = ap half (length-map (p .items ++ c .items) (rowFor h)) in
       ap (λ (n : S.Node). levelled n (nth ns (c .slot))) op ∙ ap (λ (n : S.Node). levelled (nodeFor h p) n) oc
-      ∙ ap (λ (l : List Row). cut l (lower l)) rows ∙ ap (cut (f (p .items ++ c .items))) long
+      ∙ ap (λ (l : List Row). cut l (half (length l))) rows ∙ ap (cut (f (p .items ++ c .items))) long
       ∙ ap (λ (l : List Row). put l (drop k (f (p .items ++ c .items)))) (sym (map-take (rowFor h) k (p .items ++ c .items)))
       ∙ ap (λ (l : List Row). put (f (take k (p .items ++ c .items))) l) (sym (map-drop (rowFor h) k (p .items ++ c .items)))
     where
       levelled : S.Node → S.Node → List S.Node
       levelled m n =
-          put2 ns (p .slot) (withRows m (take (lower (m .rows ++ n .rows)) (m .rows ++ n .rows))) (c .slot)
-          (withRows n (drop (lower (m .rows ++ n .rows)) (m .rows ++ n .rows)))
+          put2 ns (p .slot) (withRows m (take (half (length (m .rows ++ n .rows))) (m .rows ++ n .rows))) (c .slot)
+          (withRows n (drop (half (length (m .rows ++ n .rows))) (m .rows ++ n .rows)))
 
 -- IN THE POOL, where the code has x and y for the two slots and k for the amount
 
@@ -135,32 +135,30 @@ module _ {st : Settings} {W : List ℕ} {h s i : ℕ} {b : List (Tree h)} {p c :
 
 -- LEVELLED by a move of the right amount, either way
 
-module _ (ns : List S.Node) (p c m n : ℕ) (em : m ≡ length (nth ns p .rows)) (en : n ≡ length (nth ns c .rows)) (ne : p ≢ c) where
+module _ (ns : List S.Node) (p c m n : ℕ) (em : m ≡ length (nth ns p .rows)) (en : n ≡ length (nth ns c .rows)) (ne : p ≢ c)
+    {keep : ℕ} (ek : keep ≡ half (m + n)) where
   abbrev l : List Row
   l = nth ns p .rows
 
   abbrev r : List Row
   r = nth ns c .rows
 
-  keep : lower (l ++ r) ≡ (m + n + 1) / 2
-  keep = omega (arith, length-append l r)
-
-  pub level-back : m < (m + n + 1) / 2 → backNodes ns p c ((m + n + 1) / 2 - m) ≡ levelNodes ns p c
+  pub level-back : m < keep → backNodes ns p c (keep - m) ≡ levelNodes ns p c
   level-back g =
-      let k : ℕ = (m + n + 1) / 2 - m in
-      let at : lower (l ++ r) ≡ length l + k = omega (arith, length-append l r) in
+      let k : ℕ = keep - m in
+      let at : half (length (l ++ r)) ≡ length l + k = omega (arith, length-append l r) in
       ap (λ (q : List Row). put2 ns p (withRows (nth ns p) q) c (withRows (nth ns c) (drop k r)))
       (sym (ap (λ (z : ℕ). take z (l ++ r)) at ∙ take-append-add l r k))
-      ∙ ap (λ (q : List Row). put2 ns p (withRows (nth ns p) (take (lower (l ++ r)) (l ++ r))) c (withRows (nth ns c) q))
+      ∙ ap (λ (q : List Row). put2 ns p (withRows (nth ns p) (take (half (length (l ++ r))) (l ++ r))) c (withRows (nth ns c) q))
       (sym (ap (λ (z : ℕ). drop z (l ++ r)) at ∙ drop-append-add l r k))
 
-  pub level-on : (m + n + 1) / 2 ≤ m → forwardNodes ns p c (m - (m + n + 1) / 2) ≡ levelNodes ns p c
+  pub level-on : keep ≤ m → forwardNodes ns p c (m - keep) ≡ levelNodes ns p c
   level-on g =
-      let k : ℕ = m - (m + n + 1) / 2 in
-      let at : lower (l ++ r) ≡ length l - k = omega (arith, length-append l r) in
+      let k : ℕ = m - keep in
+      let at : half (length (l ++ r)) ≡ length l - k = omega (arith, length-append l r) in
       let le : length l - k ≤ length l = omega arith in
       set-comm ns c p (withRows (nth ns c) (drop (length l - k) l ++ r)) (withRows (nth ns p) (take (length l - k) l)) (λ e. ne (sym e))
       ∙ ap (λ (q : List Row). put2 ns p (withRows (nth ns p) q) c (withRows (nth ns c) (drop (length l - k) l ++ r)))
       (sym (ap (λ (z : ℕ). take z (l ++ r)) at ∙ take-append-le (length l - k) l r le))
-      ∙ ap (λ (q : List Row). put2 ns p (withRows (nth ns p) (take (lower (l ++ r)) (l ++ r))) c (withRows (nth ns c) q))
+      ∙ ap (λ (q : List Row). put2 ns p (withRows (nth ns p) (take (half (length (l ++ r))) (l ++ r))) c (withRows (nth ns c) q))
       (sym (ap (λ (z : ℕ). drop z (l ++ r)) at ∙ drop-append-le (length l - k) l r le))

@@ -2,12 +2,12 @@
 use mathlib.Core.Path.{_≡_, sym, ap, _∙_, subst}
 use mathlib.Core.Logic.{_≢_}
 use mathlib.Core.List.{List, [], _∷_, _++_, map, reverseAux, append-nil}
-use Prim.Native.Nat.{ℕ, suc, _+_, _/_, _<_}
+use Prim.Native.Nat.{ℕ, suc, _+_, _<_}
 use native.Mathlib.Omega.{arith}
-use lib.ListN.{length, take, drop, set, length-map, take-append-drop}
+use lib.ListN.{length, take, drop, set, take-append-drop}
 use lib.Seq.{getD-set-other}
 use Rattle.slots_raw.specs.declared.Row as R
-use Rattle.slots.specs.Nodes.{nodes, nth, rowsAt, unused, putRows, putIn, put2, withRows, lower, splitNodes, Room, Now}
+use Rattle.slots.specs.Nodes.{nodes, nth, rowsAt, unused, putRows, putIn, put2, withRows, splitNodes, Room, Now}
 use Rattle.slots.specs.Nodes as S
 use Rattle.slots_find.specs.Search.{Lowest}
 use Rattle.slots.proofs.Nodes.{length-nodes}
@@ -33,16 +33,16 @@ use Rattle.batch_share.specs.Steps.{Bounded, Focus, Poise, Came, Left}
 use Rattle.tree_node.proofs.Weights.{row-over}
 use Rattle.batch_share.proofs.Weights.{sums-fit, bounded-left, bounded-right}
 use Rattle.batch_share.proofs.Zips.{set-turned, putIn-turned, map-turned}
-use Rattle.batch_share.proofs.Places.{parent-in, came-kids}
+use Rattle.batch_share.proofs.Places.{node-len, parent-in, came-kids}
 use Rattle.batch_share.proofs.Parents.{renews-after, renewed-after}
 use Rattle.batch_share.proofs.Recast.{recast-settles}
 use Rattle.batch_share.proofs.Puts.{put-first, put-second, put-other, length-put, blank-set}
 use Rattle.batch_share.proofs.Focuses.{poise-focus, own-focus, focus-away, focus-used, parent-used}
 use Rattle.batch_share.proofs.Focuses.{focus-in, focus-long, focus-bounded, focus-rows, focus-place, focus-next}
 
--- y is what the code has for the child's slot
+-- y is what the code has for the child's slot, n for its rows, and k for those that it keeps
 module _ {st : Settings} {W : List ℕ} {h s i : ℕ} {spare : Spare} {b : List (Tree h)} {c : Tree h} {a : List (Tree h)} (poise : Poise st W h s i spare 1 b c a)
-    (y : ℕ) (ey : y ≡ c .slot) where
+    (y : ℕ) (ey : y ≡ c .slot) {n k : ℕ} (en : n ≡ length (rowsAt st W y)) (ek : k ≡ half n) where
   t : Focus st W h s i b c a
   t = poise-focus poise
 
@@ -77,7 +77,10 @@ module _ {st : Settings} {W : List ℕ} {h s i : ℕ} {spare : Spare} {b : List 
   not-new : (z : ℕ) → nth ns z .kind ≢ 0 → z ≢ x
   not-new z u e = u (ap (λ (k : ℕ). nth ns k .kind) e ∙ free-kind)
 
-  pub can-split : S.Split st W y x
+  long : n ≡ len c
+  long = en ∙ node-len ns h y c (ap (nth ns) ey ∙ own-focus t)
+
+  pub can-split : S.Split st W y x k
   can-split =
       rw ey (record {
         held = t .family .held;
@@ -85,17 +88,16 @@ module _ {st : Settings} {W : List ℕ} {h s i : ℕ} {spare : Spare} {b : List 
         slot2 = new-in;
         apart = not-new (c .slot) (focus-used t);
         free = t .family .empty x free-kind;
+        within = omega (arith, ek, long, node-len ns h (c .slot) c (own-focus t));
       })
 
   -- THE NODES
   abbrev halfNodes : List S.Node
   halfNodes = put2 ns x (nodeFor h upperHalf) (c .slot) (nodeFor h lowerHalf)
 
-  half-cut : splitNodes ns (c .slot) x ≡ halfNodes
+  half-cut : splitNodes ns (c .slot) x (half (len c)) ≡ halfNodes
   half-cut =
-      let g : S.Node → ℕ → List S.Node = λ n m. put2 ns x (withRows n (drop m (n .rows))) (c .slot) (withRows n (take m (n .rows))) in
-      let long : lower (map (rowFor h) (c .items)) ≡ half (len c) = ap (λ (m : ℕ). (m + 1) / 2) (length-map (c .items) (rowFor h)) in
-      ap (λ (n : S.Node). g n (lower (n .rows))) (own-focus t) ∙ ap (g (nodeFor h c)) long
+      ap (λ (n : S.Node). put2 ns x (withRows n (drop (half (len c)) (n .rows))) (c .slot) (withRows n (take (half (len c)) (n .rows)))) (own-focus t)
       ∙ ap (λ (l : List R.Row). put2 ns x (withRows (nodeFor h c) l) (c .slot) (withRows (nodeFor h c) (take (half (len c)) (map (rowFor h) (c .items)))))
       (sym (map-drop (rowFor h) (half (len c)) (c .items)))
       ∙ ap (λ (l : List R.Row). put2 ns x (nodeFor h upperHalf) (c .slot) (withRows (nodeFor h c) l)) (sym (map-take (rowFor h) (half (len c)) (c .items)))
@@ -121,9 +123,9 @@ module _ {st : Settings} {W : List ℕ} {h s i : ℕ} {spare : Spare} {b : List 
   upper-bounded : Bounded h (upperHalf .items)
   upper-bounded = bounded-right h (lowerHalf .items) (upperHalf .items) cut-bounded
 
-  module _ (W₁ : List ℕ) (w : Now st W W₁ (splitNodes ns y x)) where
+  module _ (W₁ : List ℕ) (w : Now st W W₁ (splitNodes ns y x k)) where
     nodes-half : nodes st W₁ ≡ halfNodes
-    nodes-half = w .is ∙ ap (λ (z : ℕ). splitNodes ns z x) ey ∙ half-cut
+    nodes-half = w .is ∙ (λ j. splitNodes ns (ey j) x ((ek ∙ ap half long) j)) ∙ half-cut
 
     rows-in : (z : ℕ) (n : S.Node) → nth halfNodes z ≡ n → rowsAt st W₁ z ≡ n .rows
     rows-in z n e = ap (λ (ms : List S.Node). nth ms z .rows) nodes-half ∙ ap (λ (m : S.Node). m .rows) e

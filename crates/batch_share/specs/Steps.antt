@@ -6,12 +6,12 @@ use mathlib.Core.Bool.{Bool, false, not}
 use mathlib.Core.List.{List, [], _∷_, _++_, reverseAux}
 use lib.ListN.{length, take, drop}
 use Rattle.slots_raw.specs.Slots.{headIn}
-use Rattle.slots.specs.Nodes.{Held, nodes, nth, rowsAt, put2, withRows, lower}
+use Rattle.slots.specs.Nodes.{Held, nodes, nth, rowsAt, put2, withRows}
 use Rattle.slots.specs.Nodes as S
 use Rattle.model.specs.declared.Settings.{Settings}
 use Rattle.model.specs.Lists.{All}
 use Rattle.model.specs.Tree.{Node, Item, Tree, lowest}
-use Rattle.model.specs.Share.{Two, Row, Place, full, stay}
+use Rattle.model.specs.Share.{Two, Row, Place, full, stay, half}
 use Rattle.model.specs.Sound.{Stocked, Fits}
 use Rattle.model.specs.Contracts.{flat, joined}
 use Rattle.tree.specs.Bridge.{Holds, Apart, Blank, unusedOf}
@@ -107,7 +107,7 @@ pub record Hands (st : Settings) (W : List ℕ) (c t : ℕ) : Type 0 where
 abbrev pub levelNodes : List S.Node → ℕ → ℕ → List S.Node
 levelNodes ns p c =
     let l = nth ns p .rows ++ nth ns c .rows in
-    put2 ns p (withRows (nth ns p) (take (lower l) l)) c (withRows (nth ns c) (drop (lower l) l))
+    put2 ns p (withRows (nth ns p) (take (half (length l)) l)) c (withRows (nth ns c) (drop (half (length l)) l))
 
 pub record Levels (st : Settings) (W : List ℕ) (p c : ℕ) : Type 0 where
   pub held : Held st W

@@ -16,6 +16,7 @@ use crate::weigh::child_len;
 use crate::weigh::renew;
 use crate::weigh::renew_two;
 use model::Settings;
+use model::half;
 use tree_node::child_at;
 use tree_node::weigh;
 use tree_spare::Spare;
@@ -108,7 +109,9 @@ fn split_child(
     ensures { λ r. let W = words (now (pool .entry)) in let ns = nodes st W in let us = unusedOf ns in let two = halved (childAt ns below s i) (lowest us) in ⌜ Rowed st W (words (now (pool .exit))) below s i r (record { nodes = two .lower ∷ two .upper ∷ afterAt ns below s i; unused = others us }) ⌝ }
 {
     let c = child_at(pool, st, s, i);
-    slots_pair::split(pool, st, c, spare.low);
+    let n = slots::count(pool, st, c);
+    let keep = half(n);
+    slots_pair::split(pool, st, c, spare.low, keep);
     let row = weigh(pool, st, below, spare.low);
     slots::insert_row(pool, st, s, i + 1, row);
     renew(pool, st, below, s, i, c);

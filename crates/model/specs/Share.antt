@@ -44,9 +44,12 @@ module _ {Y : Type 0} where
 abbrev pub half : ℕ → ℕ
 half n = (n + 1) / 2
 
--- a node split: the lower part keeps its slot, the upper takes slot s
+-- a node split: the lower part keeps its slot and k items, the upper takes slot s
+abbrev pub cutAt : {X : Type 0} → ℕ → Node X → ℕ → Two X
+cutAt k n s = record { lower = refill n (take k (n .items)); upper = record { slot = s; items = drop k (n .items) } }
+
 abbrev pub halved : {X : Type 0} → Node X → ℕ → Two X
-halved n s = record { lower = refill n (take (half (len n)) (n .items)); upper = record { slot = s; items = drop (half (len n)) (n .items) } }
+halved n s = cutAt (half (len n)) n s
 
 module _ (st : Settings) {X : Type 0} where
   abbrev pub fits : Node X → Bool

@@ -7,6 +7,7 @@ ghost use Rattle.model.specs.Sound as Sound;
 ghost use Rattle.model.specs.Tree.{isMark, noTotals};
 ghost use Rattle.model.specs.Plain.{noCounts};
 ghost use Rattle.model.specs.Look as look;
+ghost use Rattle.model.specs.Share as share;
 ghost use Rattle.model.specs.Refuse.{isRemove};
 
 // The settings that a pool is opened with: how many nodes it has, how many entries a node may hold, and below how many it is joined.
@@ -152,6 +153,13 @@ pub fn is_mark(place: u64) -> bool
     ensures { λ r. ⌜ r ≡ isMark place ⌝ }
 {
     place == 0
+}
+
+// How many of `n` rows the lower of two nodes keeps: the half, rounded up.
+pub fn half(n: usize) -> usize
+    ensures { λ r. ⌜ r ≡ share.half n ⌝ }
+{
+    n / 2 + n % 2
 }
 
 // The totals of no entries.

@@ -2,7 +2,7 @@
 -- another node, over the pool. Assumes nothing.
 use mathlib.Core.Path.{_≡_, ap, _∙_}
 use mathlib.Core.Logic.{_≢_}
-use Prim.Native.Nat.{ℕ, _+_, _-_, _/_, _≤_, _<_}
+use Prim.Native.Nat.{ℕ, _+_, _-_, _≤_, _<_}
 use native.Mathlib.Omega.{arith}
 use mathlib.Core.List.{List, [], _++_, append-nil}
 use lib.ListN.{length, take, drop, set}
@@ -91,12 +91,11 @@ put-kind-twice : (ns : List Node) (new k : ℕ) (a : Node) (s : ℕ) (b : Node) 
 unfolding putKind
 put-kind-twice ns new k a s b = ap (λ (l : List Node). set l s b) (set-set ns new (record { kind = k; rows = nth ns new .rows }) a)
 
-pub halved : (ns : List Node) (s new k n : ℕ) → s ≢ new → new < length ns → nth ns new ≡ unused → k ≡ nth ns s .kind → n ≡ length (nth ns s .rows)
-    → out (into (putKind ns new k) new 0 s ((n + 1) / 2) (n - (n + 1) / 2)) s ((n + 1) / 2) (n - (n + 1) / 2) ≡ splitNodes ns s new
-halved ns s new k n ne h free ek en =
+pub parted : (ns : List Node) (s new k n low : ℕ) → s ≢ new → new < length ns → nth ns new ≡ unused → k ≡ nth ns s .kind → n ≡ length (nth ns s .rows)
+    → low ≤ n → out (into (putKind ns new k) new 0 s low (n - low)) s low (n - low) ≡ splitNodes ns s new low
+parted ns s new k n low ne h free ek en le =
     let l = nth ns s .rows in
-    let low = (n + 1) / 2 in
-    let a = n - (n + 1) / 2 in
+    let a = n - low in
     let ms = putKind ns new k in
     let same : nth (putKind ns new k) s ≡ nth ns s = nth-kind ns s new k ne in
     let here : nth (putKind ns new k) new ≡ record { kind = nth ns s .kind; rows = [] } = put-kind-free ns s new k h free ek in
@@ -109,4 +108,3 @@ halved ns s new k n ne h free ek en =
     ∙ ap (λ (m : Node). put2 ms new (withRows (nth ms new) (drop low l)) s (withRows m (take low l))) same
     ∙ ap (λ (m : Node). put2 ms new (withRows m (drop low l)) s (withRows (nth ns s) (take low l))) here
     ∙ put-kind-twice ns new k (withRows (nth ns s) (drop low l)) s (withRows (nth ns s) (take low l))
-    ∙ ap (λ (j : ℕ). put2 ns new (withRows (nth ns s) (drop ((j + 1) / 2) l)) s (withRows (nth ns s) (take ((j + 1) / 2) l))) en

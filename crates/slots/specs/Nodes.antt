@@ -1,5 +1,5 @@
 -- The slots of a pool as nodes, a kind and a list of rows each; and a pool in order (`Held`), whose slots hold their node and zeros. Assumes nothing.
-use Prim.Native.Nat.{ℕ, _+_, _-_, _*_, _/_, _≤_, _<_}
+use Prim.Native.Nat.{ℕ, _+_, _-_, _*_, _≤_, _<_}
 use mathlib.Core.Path.{_≡_}
 use mathlib.Core.Logic.{_≢_}
 use mathlib.Core.List.{List, [], _++_, map}
@@ -83,15 +83,9 @@ put2 ns t a s b = set (set ns t a) s b
 abbrev pub withRows : Node → List Row → Node
 withRows n l = record { kind = n .kind; rows = l }
 
--- how many rows the lower node keeps where l is split
-abbrev pub lower : List Row → ℕ
-lower l = (length l + 1) / 2
-
--- the upper rows of node s go to `new`, which gets the kind of s
-abbrev pub splitNodes : List Node → ℕ → ℕ → List Node
-splitNodes ns s new =
-    let n = nth ns s in
-    put2 ns new (withRows n (drop (lower (n .rows)) (n .rows))) s (withRows n (take (lower (n .rows)) (n .rows)))
+-- node s keeps its first k rows, and the others go to `new`, which gets the kind of s
+abbrev pub splitNodes : List Node → ℕ → ℕ → ℕ → List Node
+splitNodes ns s new k = let n = nth ns s in put2 ns new (withRows n (drop k (n .rows))) s (withRows n (take k (n .rows)))
 
 -- the first a rows of node s go to the end of node `prev`
 abbrev pub backNodes : List Node → ℕ → ℕ → ℕ → List Node
@@ -138,13 +132,14 @@ pub record Pass (st : Settings) (W : List ℕ) (s from t i n : ℕ) : Type 0 whe
   pub within : i ≤ length (rowsAt st W t)
   pub room : length (rowsAt st W t) + n ≤ st .rows
 
--- node s can be split into an unused slot
-pub record Split (st : Settings) (W : List ℕ) (s new : ℕ) : Type 0 where
+-- node s can keep k rows and leave the others to an unused slot
+pub record Split (st : Settings) (W : List ℕ) (s new k : ℕ) : Type 0 where
   pub held : Held st W
   pub slot : s < st .nodes
   pub slot2 : new < st .nodes
   pub apart : s ≢ new
   pub free : nth (nodes st W) new ≡ unused
+  pub within : k ≤ length (rowsAt st W s)
 
 -- a rows of node s fit into node t
 pub record Give (st : Settings) (W : List ℕ) (s t a : ℕ) : Type 0 where

@@ -13,17 +13,16 @@ use slots::set_kind;
 use slots_raw::raw_head;
 use slots_raw::raw_move;
 
-// The upper rows of node `s` go to the unused slot `new`.
-pub fn split(pool: &mut [u8], st: Settings, s: usize, new: usize)
-    requires { ⌜ Split st (words (now pool)) s new ⌝ }
-    ensures { λ _. let W = words (now (pool .entry)) in ⌜ Now st W (words (now (pool .exit))) (splitNodes (nodes st W) s new) ⌝ }
+// Node `s` keeps its first `keep` rows, and the others go to the unused slot `new`.
+pub fn split(pool: &mut [u8], st: Settings, s: usize, new: usize, keep: usize)
+    requires { ⌜ Split st (words (now pool)) s new keep ⌝ }
+    ensures { λ _. let W = words (now (pool .entry)) in ⌜ Now st W (words (now (pool .exit))) (splitNodes (nodes st W) s new keep) ⌝ }
 {
     let n = count(pool, st, s);
     let k = kind(pool, st, s);
-    let low = (n + 1) / 2;
     set_kind(pool, st, new, k);
-    insert_from(pool, st, s, low, new, 0, n - low);
-    remove_rows(pool, st, s, low, n - low);
+    insert_from(pool, st, s, keep, new, 0, n - keep);
+    remove_rows(pool, st, s, keep, n - keep);
 }
 
 // The first `a` rows of node `s` go to the end of node `prev`.

@@ -11,25 +11,29 @@ returns : tie.Need-returns
 returns c =
     let moved = c .before .before in
     let fewer = moved .before .before in
-    let second = fewer .before in
+    let kept = fewer .before in
+    let second = kept .before in
     let first = second .before .before in
     let start = first .before .before .before in
     let a = start .args in
     let W = words (a .pool .now) in
     become (a .st) W (words (moved .share-back .last .0)) _ _ (moved .share-back .ensures)
-    (level-back (nodes (a .st) W) (a .p) (a .c) _ _ (first .count .ensures .is) (second .count2 .ensures .is) (start .pre .apart) (fewer .if1 .taken))
+    (level-back (nodes (a .st) W) (a .p) (a .c) _ _ (first .count .ensures .is) (second .count2 .ensures .is) (start .pre .apart)
+    (kept .half .ensures) (fewer .if1 .taken))
 
 returns-2 : tie.Need-returns-2
 returns-2 c =
     let moved = c .before .before in
     let more = moved .before .before in
-    let second = more .before in
+    let kept = more .before in
+    let second = kept .before in
     let first = second .before .before in
     let start = first .before .before .before in
     let a = start .args in
     let W = words (a .pool .now) in
     become (a .st) W (words (moved .share-forward .last .0)) _ _ (moved .share-forward .ensures)
-    (level-on (nodes (a .st) W) (a .p) (a .c) _ _ (first .count .ensures .is) (second .count2 .ensures .is) (start .pre .apart) (more .if1 .left))
+    (level-on (nodes (a .st) W) (a .p) (a .c) _ _ (first .count .ensures .is) (second .count2 .ensures .is) (start .pre .apart)
+    (kept .half .ensures) (more .if1 .left))
 
 pub level-spec : {M : Type 1} → statement M
 level-spec =
@@ -38,7 +42,7 @@ level-spec =
     (λ c κs. search needs)
     (λ c κs. search needs)
     (λ c. search needs)
-    (λ c. search needs)
+    (λ c κs. search needs)
     (λ c. search needs)
     (λ c κs. search needs)
     (λ c. search needs)

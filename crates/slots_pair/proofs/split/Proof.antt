@@ -1,7 +1,7 @@
--- `split` meets its contract: the new node's kind, the upper rows put into it, and the same rows taken out of node `s` are a split (`halved`). The
+-- `split` meets its contract: the new node's kind, the upper rows put into it, and the same rows taken out of node `s` are a split (`parted`). The
 -- steps before leave the rows of `s` as they were (`kept-kind`, `kept-rows`), so that the next step may be taken. Assumes nothing.
 use mathlib.Core.Path.{_≡_, ap, _∙_}
-use Prim.Native.Nat.{_+_, _-_, _/_}
+use Prim.Native.Nat.{_-_}
 use native.Mathlib.Omega.{arith}
 use mathlib.Core.List.{List}
 use lib.ListN.{length}
@@ -9,7 +9,7 @@ use borrow.Author.Needs.{needs}
 use Rattle.words.specs.Words.{words}
 use Rattle.slots.specs.Nodes.{Node, nodes, rowsAt, putKind, splitNodes}
 use Rattle.slots.proofs.Nodes.{then, become, length-nodes}
-use Rattle.slots.proofs.Pairs.{kept-rows, kept-kind, kept-same, into, out, halved}
+use Rattle.slots.proofs.Pairs.{kept-rows, kept-kind, kept-same, into, out, parted}
 use Rattle.slots_pair.proofs.split.Statement.{statement}
 use Rattle.slots_pair.proofs.split.Tie as tie
 
@@ -67,16 +67,16 @@ returns c =
     let W₁ = words (kinded .set-kind .last .0) in
     let W₂ = words (filled .insert-from .last .0) in
     let W₃ = words (emptied .remove-rows .last .0) in
-    let low = (n .result + 1) / 2 in
-    let m = n .result - (n .result + 1) / 2 in
+    let m = n .result - a .keep in
     let ns = nodes (a .st) W₀ in
     let ks = putKind ns (a .new) (k .result) in
-    let fill : List Node → List Node = λ ns. into ns (a .new) 0 (a .s) low m in
-    let empty : List Node → List Node = λ ns. out ns (a .s) low m in
-    become (a .st) W₀ W₃ (empty (fill ks)) (splitNodes ns (a .s) (a .new))
+    let fill : List Node → List Node = λ ns. into ns (a .new) 0 (a .s) (a .keep) m in
+    let empty : List Node → List Node = λ ns. out ns (a .s) (a .keep) m in
+    become (a .st) W₀ W₃ (empty (fill ks)) (splitNodes ns (a .s) (a .new) (a .keep))
     (then empty (a .st) W₀ W₂ W₃ (fill ks)
     (then fill (a .st) W₀ W₁ W₂ ks (kinded .set-kind .ensures) (filled .insert-from .ensures)) (emptied .remove-rows .ensures))
-    (halved ns (a .s) (a .new) (k .result) (n .result) (pre .apart) (omega (arith, length-nodes (a .st) W₀)) (pre .free) (k .ensures) (n .ensures .is))
+    (parted ns (a .s) (a .new) (k .result) (n .result) (a .keep) (pre .apart) (omega (arith, length-nodes (a .st) W₀)) (pre .free) (k .ensures) (n .ensures .is)
+    (omega (arith, pre .within, n .ensures .is)))
 
 pub split-spec : {M : Type 1} → statement M
 split-spec =
@@ -84,7 +84,6 @@ split-spec =
     (tie.spec
     (λ c κs. search needs)
     (λ c κs. search needs)
-    (λ c. search needs)
     (λ c κs. search needs)
     (λ c. search needs)
     insert-from-requires

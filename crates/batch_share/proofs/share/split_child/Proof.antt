@@ -10,38 +10,53 @@ use Rattle.batch_share.proofs.share.split_child.Tie as tie
 child-at-requires : tie.Need-child-at-requires
 child-at-requires c κs = sits-row (focus-sits (poise-focus (c .before .before .pre)))
 
+count-requires : tie.Need-count-requires
+count-requires c κs =
+    let t = c .before .before .before .before .pre in
+    record { held = t .family .held; slot = child-named (poise-focus t) (c .before .child-at .ensures) .slot }
+
 split-requires : tie.Need-split-requires
 split-requires c κs =
-    let t = c .before .before .before .before .pre in
-    can-split t _ (child-named (poise-focus t) (c .before .child-at .ensures) .is)
+    let kept = c .before in
+    let counted = kept .before in
+    let child = counted .before .before in
+    let t = child .before .before .before .pre in
+    can-split t _ (child-named (poise-focus t) (child .child-at .ensures) .is) (counted .count .ensures .is) (kept .half .ensures)
 
 weigh-requires : tie.Need-weigh-requires
 weigh-requires c κs =
-    let child = c .before .before .before .before .before in
+    let cut = c .before .before .before in
+    let kept = cut .before .before in
+    let counted = kept .before in
+    let child = counted .before .before in
     let t = child .before .before .before .pre in
-    upper-weighs t _ (child-named (poise-focus t) (child .child-at .ensures) .is) _ (c .before .before .before .split .ensures)
+    upper-weighs t _ (child-named (poise-focus t) (child .child-at .ensures) .is) (counted .count .ensures .is) (kept .half .ensures) _ (cut .split .ensures)
 
 add-insert-row : tie.Need-add-insert-row
 add-insert-row c =
-    let child = c .before .before .before .before .before .before .before in
+    let child = c .before .before .before .before .before .before .before .before .before .before in
     omega (arith, focus-few (poise-focus (child .before .before .before .pre)))
 
 insert-row-requires : tie.Need-insert-row-requires
 insert-row-requires c κs =
     let cut = c .before .before .before .before .before in
-    let child = cut .before .before in
+    let kept = cut .before .before in
+    let counted = kept .before in
+    let child = counted .before .before in
     let t = child .before .before .before .pre in
-    upper-room t _ (child-named (poise-focus t) (child .child-at .ensures) .is) _ (cut .split .ensures)
+    upper-room t _ (child-named (poise-focus t) (child .child-at .ensures) .is) (counted .count .ensures .is) (kept .half .ensures) _ (cut .split .ensures)
 
 renew-requires : tie.Need-renew-requires
 renew-requires c κs =
     let put = c .before .before .before in
     let weighed = put .before .before in
     let cut = weighed .before .before .before .before in
-    let child = cut .before .before in
+    let kept = cut .before .before in
+    let counted = kept .before in
+    let child = counted .before .before in
     let t = child .before .before .before .pre in
-    lower-renews t _ (child-named (poise-focus t) (child .child-at .ensures) .is) _ (cut .split .ensures) _ (weighed .weigh .ensures) _
-    (put .insert-row .ensures)
+    lower-renews t _ (child-named (poise-focus t) (child .child-at .ensures) .is) (counted .count .ensures .is) (kept .half .ensures) _ (cut .split .ensures) _
+    (weighed .weigh .ensures) _ (put .insert-row .ensures)
 
 after-taking-requires : tie.Need-after-taking-requires
 after-taking-requires c κs =
@@ -49,10 +64,12 @@ after-taking-requires c κs =
     let put = renewed .before .before .before .before in
     let weighed = put .before .before in
     let cut = weighed .before .before .before .before in
-    let child = cut .before .before in
+    let kept = cut .before .before in
+    let counted = kept .before in
+    let child = counted .before .before in
     let t = child .before .before .before .pre in
-    half-taken t _ (child-named (poise-focus t) (child .child-at .ensures) .is) _ (cut .split .ensures) _ (weighed .weigh .ensures) _
-    (put .insert-row .ensures) _ (renewed .renew .ensures)
+    half-taken t _ (child-named (poise-focus t) (child .child-at .ensures) .is) (counted .count .ensures .is) (kept .half .ensures) _ (cut .split .ensures) _
+    (weighed .weigh .ensures) _ (put .insert-row .ensures) _ (renewed .renew .ensures)
 
 returns : tie.Need-returns
 returns c =
@@ -60,16 +77,20 @@ returns c =
     let put = renewed .before .before .before .before in
     let weighed = put .before .before in
     let cut = weighed .before .before .before .before in
-    let child = cut .before .before in
+    let kept = cut .before .before in
+    let counted = kept .before in
+    let child = counted .before .before in
     let t = child .before .before .before .pre in
-    half-left t _ (child-named (poise-focus t) (child .child-at .ensures) .is) _ (cut .split .ensures) _ (weighed .weigh .ensures) _
-    (put .insert-row .ensures) _ (renewed .renew .ensures) _ (c .after-taking .ensures)
+    half-left t _ (child-named (poise-focus t) (child .child-at .ensures) .is) (counted .count .ensures .is) (kept .half .ensures) _ (cut .split .ensures) _
+    (weighed .weigh .ensures) _ (put .insert-row .ensures) _ (renewed .renew .ensures) _ (c .after-taking .ensures)
 
 pub split-child-spec : {M : Type 1} → statement M
 split-child-spec =
     tie.close
     (tie.spec
     child-at-requires
+    count-requires
+    (λ c κs. search needs)
     split-requires
     weigh-requires
     add-insert-row
