@@ -25,7 +25,7 @@ use Rattle.tree.specs.Bridge.{Apart}
 -- AN INDEX THAT CAN TAKE THE TASKS ts
 pub record Going (st : Settings) (x : Index) (ts : List Task) : Type 0 where
   pub fine : Fine st x
-  pub root : x .root .slot ≡ 0
+  pub root : x .root .slot ≡ st .root
   pub once : (s : ℕ) → times s (slotsOf x) + times s (x .unused) ≤ 1
   pub rising : Rising ts
   pub short : length ts ≤ st .order
@@ -72,7 +72,7 @@ module _ {st : Settings} {x : Index} {t : Task} {ts : List Task} (lim : InLimits
 
   -- THE ROOT THAT THE CALL LEAVES
 
-  pub node-root : call .node .slot ≡ 0
+  pub node-root : call .node .slot ≡ st .root
   node-root = owes .slot ∙ g .root
 
   pub node-apart : Apart (x .height) (call .node)

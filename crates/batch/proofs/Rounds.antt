@@ -41,19 +41,19 @@ use Rattle.batch.proofs.Rooms as R
 
 -- the model's calls of the root, on the index that the pool held at first
 abbrev whole : Settings → List ℕ → ℕ → List Task → Batched
-whole st W₀ h₀ ts = changeRoot st (length ts) (indexAt (nodes st W₀) h₀) ts noCounts
+whole st W₀ h₀ ts = changeRoot st (length ts) (indexAt (st .root) (nodes st W₀) h₀) ts noCounts
 
 pub record Running (st : Settings) (W₀ : List ℕ) (h₀ : ℕ) (b : M.Call) (W : List ℕ) (h : ℕ) (run : Run) : Type 0 where
   pub held : Held st W
   pub header : headIn W ≡ headIn W₀
-  pub holds : HoldsIndex (nodes st W) (indexAt (nodes st W) h)
+  pub holds : HoldsIndex (nodes st W) (indexAt (st .root) (nodes st W) h)
   pub spared : Spared (nodes st W) (run .spare)
   pub long : length (M.tasksOf b) ≡ length (b .keys)
   pub batch : Batch b run
-  pub going : Going st (indexAt (nodes st W) h) (drop (run .next) (M.tasksOf b))
+  pub going : Going st (indexAt (st .root) (nodes st W) h) (drop (run .next) (M.tasksOf b))
   pub calls : ℕ
   pub enough : length (drop (run .next) (M.tasksOf b)) ≤ calls
-  pub same : changeRoot st calls (indexAt (nodes st W) h) (drop (run .next) (M.tasksOf b)) (run .counts) ≡ whole st W₀ h₀ (M.tasksOf b)
+  pub same : changeRoot st calls (indexAt (st .root) (nodes st W) h) (drop (run .next) (M.tasksOf b)) (run .counts) ≡ whole st W₀ h₀ (M.tasksOf b)
 
 -- THE START
 
@@ -75,7 +75,7 @@ module _ {st : Settings} {W₀ : List ℕ} {root : Root} {b : M.Call} where
   pub start : {c : Counts} → c ≡ noCounts → Accepted st W₀ root b
       → Running st W₀ (root .height) b W₀ (root .height) (record { next = 0; counts = c; spare = root .spare })
   start ec a =
-      let x : Index = indexAt (nodes st W₀) (root .height) in
+      let x : Index = indexAt (st .root) (nodes st W₀) (root .height) in
       let adm : Admitted st b x = admitted st b x (a .accepted) in
       let p : Passes st b x = passes st b x (a .sound) (a .lent) (a .accepted) in
       record {
@@ -127,7 +127,7 @@ module _ {st : Settings} {W₀ : List ℕ} {h₀ : ℕ} {b : M.Call} {W : List �
   ns = nodes st W
 
   abbrev x : Index
-  x = indexAt (nodes st W) h
+  x = indexAt (st .root) (nodes st W) h
 
   lim : InLimits st
   lim = m .held .shape .limits
@@ -155,14 +155,14 @@ module _ {st : Settings} {W₀ : List ℕ} {h₀ : ℕ} {b : M.Call} {W : List �
 
     -- the node that is called: the root, which has no ceiling
     abbrev called-node : Subtree
-    called-node = record { height = h; slot = 0; ceiling = noCeiling }
+    called-node = record { height = h; slot = st .root; ceiling = noCeiling }
 
     -- what the call asks
     pub ask : ToChange st W h called-node b run
     ask =
         record {
           held = m .held;
-          asked = subst (λ (us : List Task). Asked st h noCeiling ns (treeAt ns h 0) us (run .spare)) (sym (n .left)) (record {
+          asked = subst (λ (us : List Task). Asked st h noCeiling ns (treeAt ns h (st .root)) us (run .spare)) (sym (n .left)) (record {
             holds = m .holds .tree;
             apart = keeps .apart;
             given = R.given lim c g;
@@ -189,9 +189,9 @@ module _ {st : Settings} {W₀ : List ℕ} {h₀ : ℕ} {b : M.Call} {W : List �
       abbrev ms : List S.Node
       ms = nodes st W₁
 
-      answers : Answers h ns ms (treeAt ns h 0) o (drop (r .run .next) T) (r .result) (r .run .counts)
+      answers : Answers h ns ms (treeAt ns h (st .root)) o (drop (r .run .next) T) (r .result) (r .run .counts)
       answers =
-          subst (λ (us : List Task). Answers h ns ms (treeAt ns h 0) (change st h noCeiling (treeAt ns h 0) us (runOf ns c)) (drop (r .run .next) T)
+          subst (λ (us : List Task). Answers h ns ms (treeAt ns h (st .root)) (change st h noCeiling (treeAt ns h (st .root)) us (runOf ns c)) (drop (r .run .next) T)
           (r .result) (r .run .counts))
           (n .left) (came .answers)
 
@@ -205,13 +205,13 @@ module _ {st : Settings} {W₀ : List ℕ} {h₀ : ℕ} {b : M.Call} {W : List �
       light : length (entriesOf x₁) < 1048576
       light = omega (arith, R.node-small lim c g)
 
-      root-is : treeAt ms h 0 ≡ o .node
-      root-is = root-read ms h (o .node) (R.node-root lim c g) light (answers .holds)
+      root-is : treeAt ms h (st .root) ≡ o .node
+      root-is = root-read (st .root) ms h (o .node) (R.node-root lim c g) light (answers .holds)
 
       pub returned : Returned st W₁ (record { height = h; spare = r .run .spare }) (r .result)
       returned =
           record {
-            keeps = subst (Keeps st W₁) (sym (index-read ms h x₁ refl (R.node-root lim c g) light called)) (record {
+            keeps = subst (Keeps st W₁) (sym (index-read (st .root) ms h x₁ refl (R.node-root lim c g) light called)) (record {
               held = came .held;
               holds = called;
               apart = R.node-apart lim c g;
@@ -231,9 +231,9 @@ module _ {st : Settings} {W₀ : List ℕ} {h₀ : ℕ} {b : M.Call} {W : List �
 
       -- AND ITS RESULT SETTLED
       module _ {W₂ : List ℕ} {q : Root} (done : SettledRoot st W₁ W₂ h (r .result) q) where
-        is : settleRoot (r .result) h (treeAt ms h 0) (unusedOf ms) ≡ y
+        is : settleRoot (r .result) h (treeAt ms h (st .root)) (unusedOf ms) ≡ y
         is =
-            ap (λ (v : ChangeResult). settleRoot v h (treeAt ms h 0) (unusedOf ms)) (answers .result)
+            ap (λ (v : ChangeResult). settleRoot v h (treeAt ms h (st .root)) (unusedOf ms)) (answers .result)
             ∙ ap (λ (z : Tree h). settleRoot (o .result) h z (unusedOf ms)) root-is ∙ ap (settleRoot (o .result) h (o .node)) (answers .unused)
 
         on : Going st y (o .tasks)
@@ -242,8 +242,8 @@ module _ {st : Settings} {W₀ : List ℕ} {h₀ : ℕ} {b : M.Call} {W : List �
         holds-y : HoldsIndex (nodes st W₂) y
         holds-y = subst (HoldsIndex (nodes st W₂)) is (done .becomes .holds)
 
-        read-y : indexAt (nodes st W₂) (q .height) ≡ y
-        read-y = index-read (nodes st W₂) (q .height) y (done .height ∙ ap (λ (z : Index). z .height) is) (on .root) (omega (arith, on .small)) holds-y
+        read-y : indexAt (st .root) (nodes st W₂) (q .height) ≡ y
+        read-y = index-read (st .root) (nodes st W₂) (q .height) y (done .height ∙ ap (λ (z : Index). z .height) is) (on .root) (omega (arith, on .small)) holds-y
 
         off : R.Calls lim c g (whole st W₀ h₀ T)
         off =

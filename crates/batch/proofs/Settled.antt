@@ -36,7 +36,7 @@ module _ {st : Settings} {W : List ℕ} {root : Root} {v : ChangeResult} (pre : 
   ns = nodes st W
 
   abbrev t : Tree (root .height)
-  t = treeAt (nodes st W) (root .height) 0
+  t = treeAt (nodes st W) (root .height) (st .root)
 
   -- OVER-FULL: it is split
   pub to-halve : v ≡ Split → Splits st W h (root .spare)
@@ -49,29 +49,29 @@ module _ {st : Settings} {W : List ℕ} {root : Root} {v : ChangeResult} (pre : 
 
   -- EMPTY: it is a leaf again
   abbrev bare : S.Node
-  bare = record { kind = 1; rows = nth (nodes st W) 0 .rows }
+  bare = record { kind = 1; rows = nth (nodes st W) (st .root) .rows }
 
   abbrev leaf : List S.Node
-  leaf = set (nodes st W) 0 bare
+  leaf = set (nodes st W) (st .root) bare
 
-  node : nth ns 0 ≡ nodeFor h t
-  node = ap (nth ns) (sym (slot-read ns h 0)) ∙ all-head (pre .keeps .holds .tree)
+  node : nth ns (st .root) ≡ nodeFor h t
+  node = ap (nth ns) (sym (slot-read ns h (st .root))) ∙ all-head (pre .keeps .holds .tree)
 
   leaf-unused : unusedOf leaf ≡ unusedOf ns
-  leaf-unused = unused-same ns 0 bare (kind-used 0) (node-used ns h 0 t node)
+  leaf-unused = unused-same ns (st .root) bare (kind-used 0) (node-used ns h (st .root) t node)
 
   leaf-holds : t .items ≡ [] → HoldsIndex leaf (record { height = 0; root = record { slot = t .slot; items = [] }; unused = unusedOf ns })
   leaf-holds e =
-      let rows : nth ns 0 .rows ≡ [] = ap (λ (n : S.Node). n .rows) node ∙ ap (map (rowFor h)) e in
+      let rows : nth ns (st .root) .rows ≡ [] = ap (λ (n : S.Node). n .rows) node ∙ ap (map (rowFor h)) e in
       record {
         tree =
-            one (ap (nth leaf) (slot-read ns h 0) ∙ nth-same ns 0 bare (used-in ns 0 (node-used ns h 0 t node))
+            one (ap (nth leaf) (slot-read ns h (st .root)) ∙ nth-same ns (st .root) bare (used-in ns (st .root) (node-used ns h (st .root) t node))
             ∙ ap (λ (l : List Row). record { kind = 1; rows = l }) rows) none;
         unused = leaf-unused;
-        blank = blank-set ns 0 bare (pre .keeps .holds .blank) (no-blank bare (kind-used 0));
+        blank = blank-set ns (st .root) bare (pre .keeps .holds .blank) (no-blank bare (kind-used 0));
       }
 
-  pub gone-settled : {W′ : List ℕ} → v ≡ Remove → Now st W W′ (putKind (nodes st W) 0 1) → SettledRoot st W W′ h v (record { height = 0; spare = root .spare })
+  pub gone-settled : {W′ : List ℕ} → v ≡ Remove → Now st W W′ (putKind (nodes st W) (st .root) 1) → SettledRoot st W W′ h v (record { height = 0; spare = root .spare })
   unfolding putKind
   gone-settled {W′} e w =
       subst (λ (u : ChangeResult). SettledRoot st W W′ h u (record { height = 0; spare = root .spare })) (sym e)
@@ -82,9 +82,9 @@ module _ {st : Settings} {W : List ℕ} {root : Root} {v : ChangeResult} (pre : 
       })
 
   -- ANY OTHER: it stays
-  pub stays-settled : {u : ChangeResult} → v ≡ u → settleRoot u h t (unusedOf ns) ≡ indexAt ns h → SettledRoot st W W h v root
+  pub stays-settled : {u : ChangeResult} → v ≡ u → settleRoot u h t (unusedOf ns) ≡ indexAt (st .root) ns h → SettledRoot st W W h v root
   stays-settled e same =
-      let is : indexAt ns h ≡ settleRoot v h t (unusedOf ns) = sym same ∙ ap (λ (r : ChangeResult). settleRoot r h t (unusedOf ns)) (sym e) in
+      let is : indexAt (st .root) ns h ≡ settleRoot v h t (unusedOf ns) = sym same ∙ ap (λ (r : ChangeResult). settleRoot r h t (unusedOf ns)) (sym e) in
       record {
         becomes = record { held = pre .keeps .held; header = refl; holds = subst (HoldsIndex ns) is (pre .keeps .holds) };
         height = ap (λ (x : Index). x .height) is;

@@ -18,11 +18,11 @@ use Rattle.batch.specs.declared.Ran.{Ran}
 -- a batch that is not refused, of a sound index
 pub record Accepted (st : Settings) (W : List ℕ) (root : Root) (c : Call) : Type 0 where
   pub held : Held st W
-  pub holds : HoldsIndex (nodes st W) (indexAt (nodes st W) (root .height))
-  pub sound : Sound st (indexAt (nodes st W) (root .height))
+  pub holds : HoldsIndex (nodes st W) (indexAt (st .root) (nodes st W) (root .height))
+  pub sound : Sound st (indexAt (st .root) (nodes st W) (root .height))
   pub spared : Spared (nodes st W) (root .spare)
   pub lent : Lent c
-  pub accepted : refusal st c (indexAt (nodes st W) (root .height)) ≡ 0
+  pub accepted : refusal st c (indexAt (st .root) (nodes st W) (root .height)) ≡ 0
 
 -- the pool holds the model's index, and the answer is of it
 pub record Batches (st : Settings) (W W′ : List ℕ) (b : Batched) (r : Ran) : Type 0 where
@@ -34,4 +34,4 @@ pub record Batches (st : Settings) (W W′ : List ℕ) (b : Batched) (r : Ran) :
   pub spared : Spared (nodes st W′) (r .root .spare)
 
 abbrev pub Changed : Settings → List ℕ → List ℕ → ℕ → Call → Ran → Type 0
-Changed st W W′ h c r = Batches st W W′ (batch st (tasksOf c) (indexAt (nodes st W) h)) r
+Changed st W W′ h c r = Batches st W W′ (batch st (tasksOf c) (indexAt (st .root) (nodes st W) h)) r

@@ -1,6 +1,6 @@
 // One batch on the index in a pool: the root takes keys until none is left, and is split, emptied or collapsed.
 //
-// The root stays in slot 0: a split root's halves take new slots, and a lone child moves into the root's. The index
+// The root stays in its slot: a split root's halves take new slots, and a lone child moves into the root's. The index
 // afterwards and the counts are those of the model's `batch`.
 ghost use Rattle.words.specs.Words.{words};
 ghost use Rattle.model.specs.Refuse.{call};
@@ -51,7 +51,7 @@ pub fn batch(
         // the root has no ceiling
         let node = Subtree {
             height,
-            slot: 0,
+            slot: st.root,
             ceiling: u64::MAX,
         };
         let r = node_change(pool, st, node, keys, places, sizes, op, run);
@@ -90,7 +90,7 @@ fn settle_root(pool: &mut [u8], st: Settings, root: Root, v: ChangeResult) -> Ro
             };
         }
         ChangeResult::Remove => {
-            slots::set_kind(pool, st, 0, LEAF);
+            slots::set_kind(pool, st, st.root, LEAF);
             let spare = root.spare;
             return Root { height: 0, spare };
         }

@@ -21,7 +21,7 @@ use Rattle.tree_spare.specs.Spared.{Spared, ToTake}
 use Rattle.tree_spare.proofs.Spares.{spared-in, spared-taken}
 use Rattle.batch_share.proofs.Places.{node-used}
 use Rattle.batch_root.specs.Roots.{Splits, Halved, Moves, moved, Crowns, crowned}
-use Rattle.batch_root.proofs.Indexes.{now-holds}
+use Rattle.batch_root.proofs.Indexes.{keeps-root, now-holds}
 use Rattle.batch_root.proofs.Halves as H
 
 module _ {st : Settings} {W₀ : List ℕ} {h : ℕ} {spare : Spare} (pre : Splits st W₀ h spare) where
@@ -29,7 +29,7 @@ module _ {st : Settings} {W₀ : List ℕ} {h : ℕ} {spare : Spare} (pre : Spli
   ns = nodes st W₀
 
   abbrev t : Tree h
-  t = treeAt (nodes st W₀) h 0
+  t = treeAt (nodes st W₀) h (st .root)
 
   abbrev a : ℕ
   a = spare .low
@@ -50,14 +50,14 @@ module _ {st : Settings} {W₀ : List ℕ} {h : ℕ} {spare : Spare} (pre : Spli
         empty = pre .keeps .holds .blank;
         slot = a-nodes;
         free = pre .spared .lowest .here a-in;
-        used = node-used ns h 0 t (ap (nth ns) (sym (slot-read ns h 0)) ∙ all-head (pre .keeps .holds .tree));
+        used = node-used ns h (st .root) t (ap (nth ns) (sym (slot-read ns h (st .root))) ∙ all-head (pre .keeps .holds .tree));
       }
 
-  module _ {W₁ : List ℕ} (mv : Now st W₀ W₁ (moved (nodes st W₀) a)) where
-    top : H.Top ns h t a
+  module _ {W₁ : List ℕ} (mv : Now st W₀ W₁ (moved (st .root) (nodes st W₀) a)) where
+    top : H.Top (st .root) ns h t a
     top =
         record {
-          root = slot-read ns h 0;
+          root = slot-read ns h (st .root);
           holds = pre .keeps .holds .tree;
           apart = pre .keeps .apart;
           bounded = record { small = pre .keeps .small; fit = pre .keeps .fit };
@@ -82,10 +82,10 @@ module _ {st : Settings} {W₀ : List ℕ} {h : ℕ} {spare : Spare} (pre : Spli
       b-nodes : b < st .nodes
       b-nodes = spared-in st W₁ lo more
 
-      second : Lowest (moved ns a) b
+      second : Lowest (moved (st .root) ns a) b
       second = subst (λ (z : List S.Node). Lowest z b) (mv .is) (lo .lowest)
 
-      b-in : b < length (moved ns a)
+      b-in : b < length (moved (st .root) ns a)
       b-in = omega (arith, length-nodes st W₁, ap length (mv .is), b-nodes)
 
       -- the moved root has the rows of the root
@@ -104,23 +104,24 @@ module _ {st : Settings} {W₀ : List ℕ} {h : ℕ} {spare : Spare} (pre : Spli
           }
 
       module _ {n k : ℕ} (en : n ≡ length (rowsAt st W₁ a)) (ek : k ≡ half n) {W₂ : List ℕ} (sp : Now st W₁ W₂ (splitNodes (nodes st W₁) a b k)) where
-        split-is : nodes st W₂ ≡ splitNodes (moved ns a) a b (half (len t))
+        split-is : nodes st W₂ ≡ splitNodes (moved (st .root) ns a) a b (half (len t))
         split-is = sp .is ∙ (λ j. splitNodes (mv .is j) a b ((ek ∙ ap half (en ∙ long)) j))
 
         pub to-crown : Crowns st W₂ h a b
         to-crown =
             record {
               held = sp .held;
+              root = keeps-root (pre .keeps);
               slot = a-nodes;
               slot2 = b-nodes;
               sums = subst (λ (z : List S.Node). Sums h (nth z a .rows)) (sym split-is) (H.lower-sums top second b-in);
               sums2 = subst (λ (z : List S.Node). Sums h (nth z b .rows)) (sym split-is) (H.upper-sums top second b-in);
-              bare = ap (λ (z : List S.Node). nth z 0 .rows) split-is ∙ H.split-bare top second b-in;
+              bare = ap (λ (z : List S.Node). nth z (st .root) .rows) split-is ∙ H.split-bare top second b-in;
             }
 
-        module _ {W₃ : List ℕ} (cr : Now st W₂ W₃ (crowned (nodes st W₂) h a b)) where
+        module _ {W₃ : List ℕ} (cr : Now st W₂ W₃ (crowned (st .root) (nodes st W₂) h a b)) where
           crown-is : nodes st W₃ ≡ H.above top second b-in
-          crown-is = cr .is ∙ ap (λ (z : List S.Node). crowned z h a b) split-is ∙ H.crowned-is top second b-in
+          crown-is = cr .is ∙ ap (λ (z : List S.Node). crowned (st .root) z h a b) split-is ∙ H.crowned-is top second b-in
 
           pub upper-taken : ToTake st W₃ rest
           upper-taken =

@@ -1,4 +1,4 @@
--- A ROOT SPLIT, over nodes: its rows moved to the lowest unused slot, the upper half of them to the next, and a parent's two rows put into slot 0 leave
+-- A ROOT SPLIT, over nodes: its rows moved to the lowest unused slot, the upper half of them to the next, and a parent's two rows put into its slot leave
 -- the model's `splitRoot`. Assumes nothing.
 use mathlib.Core.Path.{_≡_, sym, ap, _∙_, subst}
 use mathlib.Core.Logic.{_≢_}
@@ -33,8 +33,8 @@ use Rattle.batch_root.specs.Roots.{moved, crowned}
 use Rattle.batch_root.proofs.Sets.{no-blank, unused-same}
 
 -- a root that the nodes hold, and the slot that its lower half takes
-pub record Top (ns : List S.Node) (h : ℕ) (t : Tree h) (a : ℕ) : Type 0 where
-  pub root : t .slot ≡ 0
+pub record Top (r : ℕ) (ns : List S.Node) (h : ℕ) (t : Tree h) (a : ℕ) : Type 0 where
+  pub root : t .slot ≡ r
   pub holds : Holds ns h t
   pub apart : Apart h t
   pub bounded : Bounded h (t .items)
@@ -42,60 +42,60 @@ pub record Top (ns : List S.Node) (h : ℕ) (t : Tree h) (a : ℕ) : Type 0 wher
   pub first : Lowest ns a
   pub inside : a < length ns
 
-module _ {ns : List S.Node} {h : ℕ} {t : Tree h} {a : ℕ} (p : Top ns h t a) where
+module _ {r : ℕ} {ns : List S.Node} {h : ℕ} {t : Tree h} {a : ℕ} (p : Top r ns h t a) where
   abbrev low-items : List (Item h)
   low-items = take (half (len t)) (t .items)
 
   abbrev high-items : List (Item h)
   high-items = drop (half (len t)) (t .items)
 
-  node : nth ns 0 ≡ nodeFor h t
+  node : nth ns r ≡ nodeFor h t
   node = ap (nth ns) (sym (p .root)) ∙ all-head (p .holds)
 
-  used : nth ns 0 .kind ≢ 0
-  used = node-used ns h 0 t node
+  used : nth ns r .kind ≢ 0
+  used = node-used ns h r t node
 
-  root-in : 0 < length ns
-  root-in = used-in ns 0 used
+  root-in : r < length ns
+  root-in = used-in ns r used
 
   a-free : nth ns a .kind ≡ 0
   a-free = p .first .here (p .inside)
 
-  a-root : a ≢ 0
+  a-root : a ≢ r
   a-root e = used (ap (λ (x : ℕ). nth ns x .kind) (sym e) ∙ a-free)
 
   -- THE ROWS MOVED
 
   abbrev bare : S.Node
-  bare = withRows (nth ns 0) []
+  bare = withRows (nth ns r) []
 
-  moved-here : nth (moved ns a) a ≡ nth ns 0
-  moved-here = put-first ns a (nth ns 0) 0 bare a-root (p .inside)
+  moved-here : nth (moved r ns a) a ≡ nth ns r
+  moved-here = put-first ns a (nth ns r) r bare a-root (p .inside)
 
-  moved-root : nth (moved ns a) 0 ≡ bare
-  moved-root = put-second ns a (nth ns 0) 0 bare root-in
+  moved-root : nth (moved r ns a) r ≡ bare
+  moved-root = put-second ns a (nth ns r) r bare root-in
 
-  moved-blank : Blank (moved ns a)
-  moved-blank = blank-set (set ns a (nth ns 0)) 0 bare (blank-set ns a (nth ns 0) (p .empty) (no-blank (nth ns 0) used)) (no-blank bare used)
+  moved-blank : Blank (moved r ns a)
+  moved-blank = blank-set (set ns a (nth ns r)) r bare (blank-set ns a (nth ns r) (p .empty) (no-blank (nth ns r) used)) (no-blank bare used)
 
-  pub moved-unused : unusedOf (moved ns a) ≡ others (unusedOf ns)
+  pub moved-unused : unusedOf (moved r ns a) ≡ others (unusedOf ns)
   moved-unused =
-      let same : nth (set ns a (nth ns 0)) 0 ≡ nth ns 0 = getD-set-other ns a 0 (nth ns 0) unused (λ e. a-root (sym e)) in
-      unused-same (set ns a (nth ns 0)) 0 bare used (λ z. used (ap (λ (n : S.Node). n .kind) (sym same) ∙ z))
-      ∙ unused-taken ns a (nth ns 0) (p .first) (p .inside) used .1
+      let same : nth (set ns a (nth ns r)) r ≡ nth ns r = getD-set-other ns a r (nth ns r) unused (λ e. a-root (sym e)) in
+      unused-same (set ns a (nth ns r)) r bare used (λ z. used (ap (λ (n : S.Node). n .kind) (sym same) ∙ z))
+      ∙ unused-taken ns a (nth ns r) (p .first) (p .inside) used .1
 
   -- THE UPPER HALF IN ITS OWN SLOT
-  module _ {b : ℕ} (second : Lowest (moved ns a) b) (b-in : b < length (moved ns a)) where
-    b-free : nth (moved ns a) b .kind ≡ 0
+  module _ {b : ℕ} (second : Lowest (moved r ns a) b) (b-in : b < length (moved r ns a)) where
+    b-free : nth (moved r ns a) b .kind ≡ 0
     b-free = second .here b-in
 
     pub a-b : a ≢ b
-    a-b e = used (ap (λ (n : S.Node). n .kind) (sym (ap (nth (moved ns a)) (sym e) ∙ moved-here)) ∙ b-free)
+    a-b e = used (ap (λ (n : S.Node). n .kind) (sym (ap (nth (moved r ns a)) (sym e) ∙ moved-here)) ∙ b-free)
 
-    b-root : b ≢ 0
-    b-root e = used (ap (λ (n : S.Node). n .kind) (sym (ap (nth (moved ns a)) e ∙ moved-root)) ∙ b-free)
+    b-root : b ≢ r
+    b-root e = used (ap (λ (n : S.Node). n .kind) (sym (ap (nth (moved r ns a)) e ∙ moved-root)) ∙ b-free)
 
-    pub b-unused : nth (moved ns a) b ≡ unused
+    pub b-unused : nth (moved r ns a) b ≡ unused
     b-unused = moved-blank b b-free
 
     abbrev lower : Tree h
@@ -105,10 +105,10 @@ module _ {ns : List S.Node} {h : ℕ} {t : Tree h} {a : ℕ} (p : Top ns h t a) 
     upper = record { slot = b; items = high-items }
 
     abbrev split : List S.Node
-    split = splitNodes (moved ns a) a b (half (len t))
+    split = splitNodes (moved r ns a) a b (half (len t))
 
     abbrev whole : S.Node
-    whole = nth (moved ns a) a
+    whole = nth (moved r ns a) a
 
     abbrev high : S.Node
     high = withRows whole (drop (half (len t)) (whole .rows))
@@ -120,56 +120,56 @@ module _ {ns : List S.Node} {h : ℕ} {t : Tree h} {a : ℕ} (p : Top ns h t a) 
     whole-is = moved-here ∙ node
 
     whole-used : whole .kind ≢ 0
-    whole-used = node-used (moved ns a) h a t whole-is
+    whole-used = node-used (moved r ns a) h a t whole-is
 
-    a-in : a < length (moved ns a)
-    a-in = used-in (moved ns a) a whole-used
+    a-in : a < length (moved r ns a)
+    a-in = used-in (moved r ns a) a whole-used
 
     pub whole-long : length (whole .rows) ≡ len t
-    whole-long = node-len (moved ns a) h a t whole-is
+    whole-long = node-len (moved r ns a) h a t whole-is
 
     split-lower : nth split a ≡ nodeFor h lower
     split-lower =
-        put-second (moved ns a) b high a low a-in
+        put-second (moved r ns a) b high a low a-in
         ∙ ap (λ (m : S.Node). withRows m (take (half (len t)) (m .rows))) whole-is
         ∙ ap (λ (l : List Row). record { kind = kindFor h; rows = l }) (sym (map-take (rowFor h) (half (len t)) (t .items)))
 
     split-upper : nth split b ≡ nodeFor h upper
     split-upper =
-        put-first (moved ns a) b high a low (λ e. a-b (sym e)) b-in
+        put-first (moved r ns a) b high a low (λ e. a-b (sym e)) b-in
         ∙ ap (λ (m : S.Node). withRows m (drop (half (len t)) (m .rows))) whole-is
         ∙ ap (λ (l : List Row). record { kind = kindFor h; rows = l }) (sym (map-drop (rowFor h) (half (len t)) (t .items)))
 
-    split-root : nth split 0 ≡ bare
-    split-root = put-other (moved ns a) b high a low 0 (λ e. b-root (sym e)) (λ e. a-root (sym e)) ∙ moved-root
+    split-root : nth split r ≡ bare
+    split-root = put-other (moved r ns a) b high a low r (λ e. b-root (sym e)) (λ e. a-root (sym e)) ∙ moved-root
 
-    pub split-bare : nth split 0 .rows ≡ []
+    pub split-bare : nth split r .rows ≡ []
     split-bare = ap (λ (m : S.Node). m .rows) split-root
 
-    split-used : nth split 0 .kind ≢ 0
+    split-used : nth split r .kind ≢ 0
     split-used z = used (ap (λ (m : S.Node). m .kind) (sym split-root) ∙ z)
 
-    split-in : 0 < length split
-    split-in = used-in split 0 split-used
+    split-in : r < length split
+    split-in = used-in split r split-used
 
     split-blank : Blank split
-    split-blank = blank-set (set (moved ns a) b high) a low (blank-set (moved ns a) b high moved-blank (no-blank high whole-used)) (no-blank low whole-used)
+    split-blank = blank-set (set (moved r ns a) b high) a low (blank-set (moved r ns a) b high moved-blank (no-blank high whole-used)) (no-blank low whole-used)
 
     split-unused : unusedOf split ≡ others (others (unusedOf ns))
     split-unused =
-        let same : nth (set (moved ns a) b high) a ≡ whole = getD-set-other (moved ns a) b a high unused a-b in
-        unused-same (set (moved ns a) b high) a low whole-used (λ z. whole-used (ap (λ (m : S.Node). m .kind) (sym same) ∙ z))
-        ∙ unused-taken (moved ns a) b high second b-in whole-used .1 ∙ ap others moved-unused
+        let same : nth (set (moved r ns a) b high) a ≡ whole = getD-set-other (moved r ns a) b a high unused a-b in
+        unused-same (set (moved r ns a) b high) a low whole-used (λ z. whole-used (ap (λ (m : S.Node). m .kind) (sym same) ∙ z))
+        ∙ unused-taken (moved r ns a) b high second b-in whole-used .1 ∙ ap others moved-unused
 
-    -- the halves are held: no slot below the root is 0, a or b
+    -- the halves are held: no slot below the root is its own, a or b
     kept : (x : ℕ) → 0 < times x (slotsIn h (t .items)) → nth split x ≡ nth ns x
     kept x g =
         let u : nth ns x .kind ≢ 0 = used-items ns h (t .items) (all-tail (p .holds)) x g in
-        let x-root : x ≢ 0 = λ e. absurd (omega (arith, p .apart x, g, hit-same x (t .slot) (e ∙ sym (p .root)))) in
+        let x-root : x ≢ r = λ e. absurd (omega (arith, p .apart x, g, hit-same x (t .slot) (e ∙ sym (p .root)))) in
         let x-a : x ≢ a = λ e. u (ap (λ (y : ℕ). nth ns y .kind) e ∙ a-free) in
-        let same : nth (moved ns a) x ≡ nth ns x = put-other ns a (nth ns 0) 0 bare x x-a x-root in
-        let x-b : x ≢ b = λ e. u (ap (λ (m : S.Node). m .kind) (sym same) ∙ ap (λ (y : ℕ). nth (moved ns a) y .kind) e ∙ b-free) in
-        put-other (moved ns a) b high a low x x-b x-a ∙ same
+        let same : nth (moved r ns a) x ≡ nth ns x = put-other ns a (nth ns r) r bare x x-a x-root in
+        let x-b : x ≢ b = λ e. u (ap (λ (m : S.Node). m .kind) (sym same) ∙ ap (λ (y : ℕ). nth (moved r ns a) y .kind) e ∙ b-free) in
+        put-other (moved r ns a) b high a low x x-b x-a ∙ same
 
     both : All (Stands split) (cellsOf h low-items ++ cellsOf h high-items)
     both =
@@ -212,18 +212,18 @@ module _ {ns : List S.Node} {h : ℕ} {t : Tree h} {a : ℕ} (p : Top ns h t a) 
     parent = record { slot = t .slot; items = lower ∷ upper ∷ [] }
 
     abbrev pub above : List S.Node
-    above = set split 0 (nodeFor (suc h) parent)
+    above = set split r (nodeFor (suc h) parent)
 
-    pub crowned-is : crowned split h a b ≡ above
-    crowned-is = λ j. set split 0 (record { kind = 2; rows = lower-row j ∷ upper-row j ∷ [] })
+    pub crowned-is : crowned r split h a b ≡ above
+    crowned-is = λ j. set split r (record { kind = 2; rows = lower-row j ∷ upper-row j ∷ [] })
 
-    -- slot 0 is in neither half
+    -- the root's slot is in neither half
     parted : (x : ℕ) → times x (slotsIn h low-items) + times x (slotsIn h high-items) ≡ times x (slotsIn h (t .items))
     parted x = sym (slots-append x h low-items high-items) ∙ ap (λ (l : List (Item h)). times x (slotsIn h l)) (take-append-drop (half (len t)) (t .items))
 
-    stays : (y : Tree h) → y .slot ≢ 0 → ((x : ℕ) → times x (slotsIn h (y .items)) ≤ times x (slotsIn h (t .items))) → Holds split h y → Holds above h y
+    stays : (y : Tree h) → y .slot ≢ r → ((x : ℕ) → times x (slotsIn h (y .items)) ≤ times x (slotsIn h (t .items))) → Holds split h y → Holds above h y
     stays y ne le k =
-        agree-tree split above h y (λ x g. getD-set-other split 0 x (nodeFor (suc h) parent) unused (λ e. absurd (omega (
+        agree-tree split above h y (λ x g. getD-set-other split r x (nodeFor (suc h) parent) unused (λ e. absurd (omega (
           arith,
           g,
           hit-other x (y .slot) (λ q. ne (sym q ∙ e)),
@@ -234,7 +234,7 @@ module _ {ns : List S.Node} {h : ℕ} {t : Tree h} {a : ℕ} (p : Top ns h t a) 
 
     holds : Holds above (suc h) parent
     holds =
-        one (ap (nth above) (p .root) ∙ nth-same split 0 (nodeFor (suc h) parent) split-in)
+        one (ap (nth above) (p .root) ∙ nth-same split r (nodeFor (suc h) parent) split-in)
         (all-append (stays lower a-root (λ x. omega (arith, parted x)) lower-held)
         (all-append (stays upper b-root (λ x. omega (arith, parted x)) upper-held)
         none))
@@ -242,8 +242,8 @@ module _ {ns : List S.Node} {h : ℕ} {t : Tree h} {a : ℕ} (p : Top ns h t a) 
     -- the slots that the halves took are the model's
     taken : splitRoot h t (unusedOf ns) ≡ record { height = suc h; root = parent; unused = others (others (unusedOf ns)) }
     taken =
-        let first : lowest (unusedOf ns) ≡ a = unused-taken ns a (nth ns 0) (p .first) (p .inside) used .0 in
-        let next : lowest (others (unusedOf ns)) ≡ b = ap lowest (sym moved-unused) ∙ unused-taken (moved ns a) b high second b-in whole-used .0 in
+        let first : lowest (unusedOf ns) ≡ a = unused-taken ns a (nth ns r) (p .first) (p .inside) used .0 in
+        let next : lowest (others (unusedOf ns)) ≡ b = ap lowest (sym moved-unused) ∙ unused-taken (moved r ns a) b high second b-in whole-used .0 in
         λ j. record {
           height = suc h;
           root = record { slot = t .slot; items = record { slot = first j; items = low-items } ∷ record { slot = next j; items = high-items } ∷ [] };
@@ -251,12 +251,12 @@ module _ {ns : List S.Node} {h : ℕ} {t : Tree h} {a : ℕ} (p : Top ns h t a) 
         }
 
     pub above-unused : unusedOf above ≡ others (others (unusedOf ns))
-    above-unused = unused-same split 0 (nodeFor (suc h) parent) (kind-used (suc h)) split-used ∙ split-unused
+    above-unused = unused-same split r (nodeFor (suc h) parent) (kind-used (suc h)) split-used ∙ split-unused
 
     pub above-holds : HoldsIndex above (splitRoot h t (unusedOf ns))
     above-holds =
         subst (HoldsIndex above) (sym taken) (record {
           tree = holds;
           unused = above-unused;
-          blank = blank-set split 0 (nodeFor (suc h) parent) split-blank (no-blank (nodeFor (suc h) parent) (kind-used (suc h)));
+          blank = blank-set split r (nodeFor (suc h) parent) split-blank (no-blank (nodeFor (suc h) parent) (kind-used (suc h)));
         })

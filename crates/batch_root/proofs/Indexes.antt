@@ -3,24 +3,41 @@ use mathlib.Core.Path.{_≡_, sym, ap, _∙_, subst}
 use mathlib.Core.List.{List}
 use Prim.Native.Nat.{ℕ, _<_}
 use lib.ListN.{length}
-use Rattle.slots.specs.Nodes.{Now, nodes}
+use native.Mathlib.Omega.{arith}
+use Rattle.slots.specs.Nodes.{Now, nodes, nth}
+use Rattle.slots.proofs.Nodes.{length-nodes}
+use Rattle.model.proofs.Lists.{all-head}
+use Rattle.tree.proofs.Unused.{used-in}
+use Rattle.tree.proofs.SoundHolds.{slot-read}
+use Rattle.batch_share.proofs.Places.{node-used}
 use Rattle.slots.specs.Nodes as S
 use Rattle.model.specs.declared.Settings.{Settings}
 use Rattle.model.specs.Tree.{Tree, Index, entriesOf}
 use Rattle.tree.specs.Bridge.{treeAt, unusedOf, Holds, HoldsIndex}
 use Rattle.tree.proofs.ReadOff.{Light, held-tree}
-use Rattle.batch_root.specs.Roots.{indexAt, Becomes}
+use Rattle.batch_root.specs.Roots.{indexAt, Keeps, Becomes}
 
--- a tree with its root in slot 0
-pub root-read : (ns : List S.Node) (h : ℕ) (t : Tree h) → t .slot ≡ 0 → Light h t → Holds ns h t → treeAt ns h 0 ≡ t
-root-read ns h t e light k = ap (treeAt ns h) (sym e) ∙ held-tree ns h t light k
+-- a tree with its root in slot r
+pub root-read : (r : ℕ) (ns : List S.Node) (h : ℕ) (t : Tree h) → t .slot ≡ r → Light h t → Holds ns h t → treeAt ns h r ≡ t
+root-read r ns h t e light k = ap (treeAt ns h) (sym e) ∙ held-tree ns h t light k
 
-pub index-read : (ns : List S.Node) (h : ℕ) (x : Index) → h ≡ x .height → x .root .slot ≡ 0 → length (entriesOf x) < 1048576 → HoldsIndex ns x
-    → indexAt ns h ≡ x
-index-read ns h x eh e light k =
-    ap (indexAt ns) eh
-    ∙ ap (λ (t : Tree (x .height)). record { height = x .height; root = t; unused = unusedOf ns }) (root-read ns (x .height) (x .root) e light (k .tree))
+pub index-read : (r : ℕ) (ns : List S.Node) (h : ℕ) (x : Index) → h ≡ x .height → x .root .slot ≡ r → length (entriesOf x) < 1048576 → HoldsIndex ns x
+    → indexAt r ns h ≡ x
+index-read r ns h x eh e light k =
+    ap (indexAt r ns) eh
+    ∙ ap (λ (t : Tree (x .height)). record { height = x .height; root = t; unused = unusedOf ns }) (root-read r ns (x .height) (x .root) e light (k .tree))
     ∙ ap (λ (l : List ℕ). record { height = x .height; root = x .root; unused = l }) (k .unused)
+
+-- the root of an index that a pool holds is in one of its slots
+pub keeps-root : {st : Settings} {W : List ℕ} {h : ℕ} → Keeps st W (indexAt (st .root) (nodes st W) h) → st .root < st .nodes
+keeps-root {st} {W} {h} k =
+    let ns : List S.Node = nodes st W in
+    let t : Tree h = treeAt (nodes st W) h (st .root) in
+    omega (
+      arith,
+      used-in ns (st .root) (node-used ns h (st .root) t (ap (nth ns) (sym (slot-read ns h (st .root))) ∙ all-head (k .holds .tree))),
+      length-nodes st W,
+    )
 
 pub now-holds : (st : Settings) (W W′ : List ℕ) (ms : List S.Node) (x : Index) → Now st W W′ ms → HoldsIndex ms x → Becomes st W W′ x
 now-holds st W W′ ms x w k = record { held = w .held; header = w .header; holds = subst (λ (z : List S.Node). HoldsIndex z x) (sym (w .is)) k }

@@ -1,4 +1,4 @@
--- A ROOT THAT GIVES WAY to its only child, over nodes: the child's rows and kind in slot 0, and its slot given up. Then the collapse from here is the
+-- A ROOT THAT GIVES WAY to its only child, over nodes: the child's rows and kind in the root's slot, and its slot given up. Then the collapse from here is the
 -- collapse from the start. Assumes nothing.
 use mathlib.Core.Path.{_≡_, refl, sym, ap, _∙_, subst}
 use mathlib.Core.Logic.{_≢_}
@@ -52,32 +52,32 @@ raised ns s c k ne h e =
     ∙ ap (λ (z : List S.Node). set z c unused) (set-set ns s bare (record { kind = k; rows = nth ns c .rows }))
 
 -- A ROOT WITH ONE CHILD, of height h
-pub record Single (ns : List S.Node) (h : ℕ) : Type 0 where
-  pub holds : Holds ns (suc h) (treeAt ns (suc h) 0)
-  pub apart : Apart (suc h) (treeAt ns (suc h) 0)
-  pub one : length (nth ns 0 .rows) ≡ 1
+pub record Single (r : ℕ) (ns : List S.Node) (h : ℕ) : Type 0 where
+  pub holds : Holds ns (suc h) (treeAt ns (suc h) r)
+  pub apart : Apart (suc h) (treeAt ns (suc h) r)
+  pub one : length (nth ns r .rows) ≡ 1
 
-module _ {ns : List S.Node} {h : ℕ} (p : Single ns h) where
+module _ {r : ℕ} {ns : List S.Node} {h : ℕ} (p : Single r ns h) where
   abbrev child : Tree h
-  child = childAt ns h 0 0
+  child = childAt ns h r 0
 
-  only : treeAt ns (suc h) 0 .items ≡ child ∷ []
-  only = ap (map (λ (r : Row). treeAt ns h (childOf r))) (one-of (nth ns 0 .rows) blank (p .one))
+  only : treeAt ns (suc h) r .items ≡ child ∷ []
+  only = ap (map (λ (q : Row). treeAt ns h (childOf q))) (one-of (nth ns r .rows) blank (p .one))
 
   child-held : Holds ns h child
   child-held = all-left (cells (suc h) child) [] (subst (λ (l : List (Tree h)). All (Stands ns) (cellsOf (suc h) l)) only (all-tail (p .holds)))
 
-  counts : (x : ℕ) → times x (0 ∷ slots (suc h) child) ≤ 1
+  counts : (x : ℕ) → times x (r ∷ slots (suc h) child) ≤ 1
   counts x =
       omega (
         arith,
         p .apart x,
-        ap (λ (l : List (Tree h)). times x (0 ∷ slotsIn (suc h) l)) only,
+        ap (λ (l : List (Tree h)). times x (r ∷ slotsIn (suc h) l)) only,
         times-append x (slots (suc h) child) [],
       )
 
-  pub child-root : child .slot ≢ 0
-  child-root e = absurd (omega (arith, counts 0, hit-same 0 0 refl, hit-same 0 (child .slot) (sym e)))
+  pub child-root : child .slot ≢ r
+  child-root e = absurd (omega (arith, counts r, hit-same r r refl, hit-same r (child .slot) (sym e)))
 
   child-used : nth ns (child .slot) .kind ≢ 0
   child-used = node-used ns h (child .slot) child (all-head child-held)
@@ -85,50 +85,50 @@ module _ {ns : List S.Node} {h : ℕ} (p : Single ns h) where
   pub child-in : child .slot < length ns
   child-in = used-in ns (child .slot) child-used
 
-  root-used : nth ns 0 .kind ≢ 0
-  root-used = node-used ns (suc h) 0 (treeAt ns (suc h) 0) (all-head (p .holds))
+  root-used : nth ns r .kind ≢ 0
+  root-used = node-used ns (suc h) r (treeAt ns (suc h) r) (all-head (p .holds))
 
-  root-in : 0 < length ns
-  root-in = used-in ns 0 root-used
+  root-in : r < length ns
+  root-in = used-in ns r root-used
 
   -- the child's rows with its kind
   abbrev top : S.Node
   top = record { kind = kindFor h; rows = nth ns (child .slot) .rows }
 
   abbrev pub raise : List S.Node
-  raise = put2 ns 0 top (child .slot) unused
+  raise = put2 ns r top (child .slot) unused
 
   top-is : top ≡ nodeFor h child
   top-is = ap (λ (n : S.Node). record { kind = kindFor h; rows = n .rows }) (all-head child-held)
 
-  still : nth (set ns 0 top) (child .slot) .kind ≢ 0
-  still z = child-used (ap (λ (n : S.Node). n .kind) (sym (getD-set-other ns 0 (child .slot) top unused child-root)) ∙ z)
+  still : nth (set ns r top) (child .slot) .kind ≢ 0
+  still z = child-used (ap (λ (n : S.Node). n .kind) (sym (getD-set-other ns r (child .slot) top unused child-root)) ∙ z)
 
   kept : (x : ℕ) → 0 < times x (slotsIn h (child .items)) → nth raise x ≡ nth ns x
   kept x g =
-      put-other ns 0 top (child .slot) unused x (λ e. absurd (omega (arith, counts x, g, hit-same x 0 e)))
+      put-other ns r top (child .slot) unused x (λ e. absurd (omega (arith, counts x, g, hit-same x r e)))
       (λ e. absurd (omega (arith, counts x, g, hit-same x (child .slot) e)))
 
-  pub raise-holds : Blank ns → HoldsIndex raise (lifted ns h)
+  pub raise-holds : Blank ns → HoldsIndex raise (lifted r ns h)
   raise-holds empty =
       record {
         tree =
-            one (put-first ns 0 top (child .slot) unused (λ e. child-root (sym e)) root-in ∙ top-is)
+            one (put-first ns r top (child .slot) unused (λ e. child-root (sym e)) root-in ∙ top-is)
             (agree-items ns raise h (child .items) kept (all-tail child-held));
-        unused = unused-released (set ns 0 top) (child .slot) (used-in (set ns 0 top) (child .slot) still) still
-            ∙ ap (release (child .slot)) (unused-same ns 0 top (kind-used h) root-used);
-        blank = blank-set (set ns 0 top) (child .slot) unused (blank-set ns 0 top empty (no-blank top (kind-used h))) (λ z. refl);
+        unused = unused-released (set ns r top) (child .slot) (used-in (set ns r top) (child .slot) still) still
+            ∙ ap (release (child .slot)) (unused-same ns r top (kind-used h) root-used);
+        blank = blank-set (set ns r top) (child .slot) unused (blank-set ns r top empty (no-blank top (kind-used h))) (λ z. refl);
       }
 
   -- the list is the same, and the slots but for the one given up
-  pub lifted-list : flat h (child .items) ≡ entries (suc (suc h)) (treeAt ns (suc h) 0)
+  pub lifted-list : flat h (child .items) ≡ entries (suc (suc h)) (treeAt ns (suc h) r)
   lifted-list = sym (append-nil (flat h (child .items))) ∙ ap (flat (suc h)) (sym only)
 
-  pub lifted-apart : Apart h (lifted ns h .root)
+  pub lifted-apart : Apart h (lifted r ns h .root)
   lifted-apart x = omega (arith, counts x)
 
-  pub lifted-same : collapsed (lifted ns h) ≡ collapsed (indexAt ns (suc h))
-  lifted-same = ap (λ (l : List (Tree h)). collapse (suc h) 0 l (unusedOf ns)) (sym only)
+  pub lifted-same : collapsed (lifted r ns h) ≡ collapsed (indexAt r ns (suc h))
+  lifted-same = ap (λ (l : List (Tree h)). collapse (suc h) r l (unusedOf ns)) (sym only)
 
 -- WHERE THE COLLAPSE ENDS
 
@@ -138,9 +138,9 @@ collapse-ends h slot [] us ne = refl
 collapse-ends h slot (c ∷ []) us ne = absurd (ne refl)
 collapse-ends h slot (c ∷ (d ∷ xs)) us ne = refl
 
-pub ends-leaf : (ns : List S.Node) → collapsed (indexAt ns 0) ≡ indexAt ns 0
-ends-leaf ns = refl
+pub ends-leaf : (r : ℕ) (ns : List S.Node) → collapsed (indexAt r ns 0) ≡ indexAt r ns 0
+ends-leaf r ns = refl
 
-pub ends-wide : (ns : List S.Node) (h : ℕ) → length (nth ns 0 .rows) ≢ 1 → collapsed (indexAt ns (suc h)) ≡ indexAt ns (suc h)
-ends-wide ns h ne =
-    collapse-ends h 0 (treeAt ns (suc h) 0 .items) (unusedOf ns) (λ e. ne (sym (length-map (nth ns 0 .rows) (λ r. treeAt ns h (childOf r))) ∙ e))
+pub ends-wide : (r : ℕ) (ns : List S.Node) (h : ℕ) → length (nth ns r .rows) ≢ 1 → collapsed (indexAt r ns (suc h)) ≡ indexAt r ns (suc h)
+ends-wide r ns h ne =
+    collapse-ends h r (treeAt ns (suc h) r .items) (unusedOf ns) (λ e. ne (sym (length-map (nth ns r .rows) (λ q. treeAt ns h (childOf q))) ∙ e))

@@ -43,23 +43,23 @@ kind-set ns s n k h =
     ap (λ (m : S.Node). set (set ns s n) s (record { kind = k; rows = m .rows })) (nth-same ns s n h) ∙ set-set ns s n (record { kind = k; rows = n .rows })
 
 -- all rows of the root go to an unused slot, which got its kind before
-pub moved-all : (ns : List S.Node) (new k n : ℕ) → 0 ≢ new → new < length ns → nth ns new ≡ unused → k ≡ nth ns 0 .kind → n ≡ length (nth ns 0 .rows)
-    → backNodes (putKind ns new k) new 0 n ≡ moved ns new
+pub moved-all : (r : ℕ) (ns : List S.Node) (new k n : ℕ) → r ≢ new → new < length ns → nth ns new ≡ unused → k ≡ nth ns r .kind → n ≡ length (nth ns r .rows)
+    → backNodes (putKind ns new k) new r n ≡ moved r ns new
 unfolding putKind
-moved-all ns new k n ne h free ek en =
-    let l = nth ns 0 .rows in
+moved-all r ns new k n ne h free ek en =
+    let l = nth ns r .rows in
     let ms = putKind ns new k in
     let none : nth ns new .rows ≡ [] = ap (λ (m : S.Node). m .rows) free in
-    let same : nth (putKind ns new k) 0 ≡ nth ns 0 = nth-kind ns 0 new k ne in
-    let here : nth (putKind ns new k) new ≡ record { kind = nth ns 0 .kind; rows = [] } =
+    let same : nth (putKind ns new k) r ≡ nth ns r = nth-kind ns r new k ne in
+    let here : nth (putKind ns new k) new ≡ record { kind = nth ns r .kind; rows = [] } =
     nth-same ns new (record { kind = k; rows = nth ns new .rows }) h ∙ (λ j. record { kind = ek j; rows = none j }) in
-    let all : take n (nth ns 0 .rows) ≡ nth ns 0 .rows = ap (λ (j : ℕ). take j l) en ∙ take-length l in
-    let rest : drop n (nth ns 0 .rows) ≡ [] = ap (λ (j : ℕ). drop j l) en ∙ drop-length l in
-    ap (λ (m : S.Node). put2 ms new (withRows (nth ms new) (nth ms new .rows ++ take n (m .rows))) 0 (withRows m (drop n (m .rows)))) same
-    ∙ ap (λ (m : S.Node). put2 ms new (withRows m (m .rows ++ take n l)) 0 (withRows (nth ns 0) (drop n l))) here
-    ∙ ap (λ (r : List Row). put2 ms new (record { kind = nth ns 0 .kind; rows = r }) 0 (withRows (nth ns 0) (drop n l))) all
-    ∙ ap (λ (r : List Row). put2 ms new (nth ns 0) 0 (withRows (nth ns 0) r)) rest
-    ∙ ap (λ (z : List S.Node). set z 0 (withRows (nth ns 0) [])) (set-set ns new (record { kind = k; rows = nth ns new .rows }) (nth ns 0))
+    let all : take n (nth ns r .rows) ≡ nth ns r .rows = ap (λ (j : ℕ). take j l) en ∙ take-length l in
+    let rest : drop n (nth ns r .rows) ≡ [] = ap (λ (j : ℕ). drop j l) en ∙ drop-length l in
+    ap (λ (m : S.Node). put2 ms new (withRows (nth ms new) (nth ms new .rows ++ take n (m .rows))) r (withRows m (drop n (m .rows)))) same
+    ∙ ap (λ (m : S.Node). put2 ms new (withRows m (m .rows ++ take n l)) r (withRows (nth ns r) (drop n l))) here
+    ∙ ap (λ (q : List Row). put2 ms new (record { kind = nth ns r .kind; rows = q }) r (withRows (nth ns r) (drop n l))) all
+    ∙ ap (λ (q : List Row). put2 ms new (nth ns r) r (withRows (nth ns r) q)) rest
+    ∙ ap (λ (z : List S.Node). set z r (withRows (nth ns r) [])) (set-set ns new (record { kind = k; rows = nth ns new .rows }) (nth ns r))
 
 -- a node without rows is given a kind and two rows
 pub two-rows : (ns : List S.Node) (s k : ℕ) (a b : Row) → s < length ns → nth ns s .rows ≡ []

@@ -1,4 +1,4 @@
--- THE COLLAPSE, over the pool: one child that moves into slot 0, and the loop, whose collapse from here is the collapse from the start. Assumes nothing.
+-- THE COLLAPSE, over the pool: one child that moves into the root's slot, and the loop, whose collapse from here is the collapse from the start. Assumes nothing.
 use mathlib.Core.Path.{_≡_, refl, sym, ap, _∙_, subst}
 use mathlib.Core.Logic.{_≢_}
 use mathlib.Core.List.{List}
@@ -21,35 +21,35 @@ use Rattle.tree_spare.proofs.Spares.{spared-freed}
 use Rattle.batch_share.specs.Settle.{childAt}
 use Rattle.batch_share.proofs.Places.{slot-of}
 use Rattle.batch_root.specs.Roots.{indexAt, Keeps, Becomes, RootSettled, Lone, Lifted, lifted, collapsed}
-use Rattle.batch_root.proofs.Indexes.{index-read, now-holds}
+use Rattle.batch_root.proofs.Indexes.{index-read, keeps-root, now-holds}
 use Rattle.batch_root.proofs.Lifts.{none-left, raised, Single, child-root, child-in, raise, raise-holds}
 use Rattle.batch_root.proofs.Lifts.{lifted-list, lifted-apart, lifted-same, ends-leaf, ends-wide}
 
-single : {st : Settings} {W : List ℕ} {h : ℕ} {spare : Spare} → Lone st W h spare → Single (nodes st W) h
+single : {st : Settings} {W : List ℕ} {h : ℕ} {spare : Spare} → Lone st W h spare → Single (st .root) (nodes st W) h
 single p = record { holds = p .keeps .holds .tree; apart = p .keeps .apart; one = p .one }
 
 -- ONE CHILD, named by the root's row
 module _ {st : Settings} {W₀ : List ℕ} {h : ℕ} {spare : Spare} (pre : Lone st W₀ h spare) {child : ℕ}
-    (named : child ≡ childOf (getD (rowsAt st W₀ 0) 0 blank)) where
+    (named : child ≡ childOf (getD (rowsAt st W₀ (st .root)) 0 blank)) where
   abbrev ns : List S.Node
   ns = nodes st W₀
 
-  slot-is : childAt ns h 0 0 .slot ≡ child
-  slot-is = sym (slot-of ns h 0 0 named)
+  slot-is : childAt ns h (st .root) 0 .slot ≡ child
+  slot-is = sym (slot-of ns h (st .root) 0 named)
 
-  away : child ≢ 0
+  away : child ≢ st .root
   away e = child-root (single pre) (slot-is ∙ e)
 
-  root-in : 0 < st .nodes
-  root-in = omega (arith, pre .keeps .held .shape .limits .many)
+  root-in : st .root < st .nodes
+  root-in = keeps-root (pre .keeps)
 
-  module _ {W₁ W₂ : List ℕ} {k : ℕ} (ek : k ≡ kindFor h) (out : Now st W₀ W₁ (putRows (nodes st W₀) 0 (without (rowsAt st W₀ 0) 0 1)))
-      (kinded : Now st W₁ W₂ (putKind (nodes st W₁) 0 k)) where
-    pub to-join : Give st W₂ child 0 (length (rowsAt st W₂ child))
+  module _ {W₁ W₂ : List ℕ} {k : ℕ} (ek : k ≡ kindFor h) (out : Now st W₀ W₁ (putRows (nodes st W₀) (st .root) (without (rowsAt st W₀ (st .root)) 0 1)))
+      (kinded : Now st W₁ W₂ (putKind (nodes st W₁) (st .root) k)) where
+    pub to-join : Give st W₂ child (st .root) (length (rowsAt st W₂ child))
     to-join =
-        let bare : length (rowsAt st W₂ 0) ≡ 0 =
-        ap length (kept-same st W₁ W₂ 0 0 k kinded root-in ∙ own-rows st W₀ W₁ 0 (without (rowsAt st W₀ 0) 0 1) out root-in
-        ∙ none-left (rowsAt st W₀ 0) (pre .one)) in
+        let bare : length (rowsAt st W₂ (st .root)) ≡ 0 =
+        ap length (kept-same st W₁ W₂ (st .root) (st .root) k kinded root-in ∙ own-rows st W₀ W₁ (st .root) (without (rowsAt st W₀ (st .root)) 0 1) out root-in
+        ∙ none-left (rowsAt st W₀ (st .root)) (pre .one)) in
         record {
           held = kinded .held;
           slot = omega (arith, slot-is, length-nodes st W₀, child-in (single pre));
@@ -59,19 +59,19 @@ module _ {st : Settings} {W₀ : List ℕ} {h : ℕ} {spare : Spare} (pre : Lone
           room = omega (arith, bare, fits-node st W₂ child (kinded .held));
         }
 
-    becomes-lifted : {W₃ : List ℕ} → Now st W₂ W₃ (joinNodes (nodes st W₂) 0 child) → Becomes st W₀ W₃ (lifted ns h)
+    becomes-lifted : {W₃ : List ℕ} → Now st W₂ W₃ (joinNodes (nodes st W₂) (st .root) child) → Becomes st W₀ W₃ (lifted (st .root) ns h)
     becomes-lifted {W₃} joined =
-        let f : List S.Node → List S.Node = λ ms. putKind ms 0 k in
-        let g : List S.Node → List S.Node = λ ms. joinNodes ms 0 child in
-        let first : List S.Node = putRows ns 0 (without (nth ns 0 .rows) 0 1) in
-        now-holds st W₀ W₃ (raise (single pre)) (lifted ns h)
+        let f : List S.Node → List S.Node = λ ms. putKind ms (st .root) k in
+        let g : List S.Node → List S.Node = λ ms. joinNodes ms (st .root) child in
+        let first : List S.Node = putRows ns (st .root) (without (nth ns (st .root) .rows) 0 1) in
+        now-holds st W₀ W₃ (raise (single pre)) (lifted (st .root) ns h)
         (become st W₀ W₃ (g (f first)) (raise (single pre)) (then g st W₀ W₂ W₃ (f first) (then f st W₀ W₁ W₂ first out kinded) joined)
-        (raised ns 0 child k away (omega (arith, length-nodes st W₀, root-in)) (pre .one)
-        ∙ ap (λ (j : ℕ). put2 ns 0 (record { kind = j; rows = nth ns child .rows }) child unused) ek
-        ∙ ap (λ (j : ℕ). put2 ns 0 (record { kind = kindFor h; rows = nth ns j .rows }) j unused) (sym slot-is)))
+        (raised ns (st .root) child k away (omega (arith, length-nodes st W₀, root-in)) (pre .one)
+        ∙ ap (λ (j : ℕ). put2 ns (st .root) (record { kind = j; rows = nth ns child .rows }) child unused) ek
+        ∙ ap (λ (j : ℕ). put2 ns (st .root) (record { kind = kindFor h; rows = nth ns j .rows }) j unused) (sym slot-is)))
         (raise-holds (single pre) (pre .keeps .holds .blank))
 
-    pub child-lifted : {W₃ : List ℕ} {r : Spare} → Now st W₂ W₃ (joinNodes (nodes st W₂) 0 child) → r ≡ freeing spare child → Lifted st W₀ W₃ h r
+    pub child-lifted : {W₃ : List ℕ} {r : Spare} → Now st W₂ W₃ (joinNodes (nodes st W₂) (st .root) child) → r ≡ freeing spare child → Lifted st W₀ W₃ h r
     child-lifted {W₃} joined e =
         let b = becomes-lifted joined in
         record {
@@ -84,40 +84,40 @@ module _ {st : Settings} {W₀ : List ℕ} {h : ℕ} {spare : Spare} (pre : Lone
 -- THE LOOP
 
 pub record Sinking (st : Settings) (W₀ W : List ℕ) (h₀ h : ℕ) (spare : Spare) : Type 0 where
-  pub keeps : Keeps st W (indexAt (nodes st W) h)
+  pub keeps : Keeps st W (indexAt (st .root) (nodes st W) h)
   pub header : headIn W ≡ headIn W₀
   pub spared : Spared (nodes st W) spare
-  pub same : collapsed (indexAt (nodes st W) h) ≡ collapsed (indexAt (nodes st W₀) h₀)
+  pub same : collapsed (indexAt (st .root) (nodes st W) h) ≡ collapsed (indexAt (st .root) (nodes st W₀) h₀)
 
-pub sink-start : {st : Settings} {W : List ℕ} {h : ℕ} {spare : Spare} → Keeps st W (indexAt (nodes st W) h) → Spared (nodes st W) spare
+pub sink-start : {st : Settings} {W : List ℕ} {h : ℕ} {spare : Spare} → Keeps st W (indexAt (st .root) (nodes st W) h) → Spared (nodes st W) spare
     → Sinking st W W h h spare
 sink-start k x = record { keeps = k; header = refl; spared = x; same = refl }
 
 module _ {st : Settings} {W₀ W : List ℕ} {h₀ h : ℕ} {spare : Spare} (m : Sinking st W₀ W h₀ h spare) where
   -- a root with one child, of height g, gives way to it
-  pub lone : {g : ℕ} → h ≡ suc g → length (rowsAt st W 0) ≡ 1 → Lone st W g spare
-  lone e q = record { keeps = subst (λ (n : ℕ). Keeps st W (indexAt (nodes st W) n)) e (m .keeps); spared = m .spared; one = q }
+  pub lone : {g : ℕ} → h ≡ suc g → length (rowsAt st W (st .root)) ≡ 1 → Lone st W g spare
+  lone e q = record { keeps = subst (λ (n : ℕ). Keeps st W (indexAt (st .root) (nodes st W) n)) e (m .keeps); spared = m .spared; one = q }
 
-  pub sink-on : {g : ℕ} {W′ : List ℕ} {r : Spare} → h ≡ suc g → length (rowsAt st W 0) ≡ 1 → Lifted st W W′ g r → Sinking st W₀ W′ h₀ g r
+  pub sink-on : {g : ℕ} {W′ : List ℕ} {r : Spare} → h ≡ suc g → length (rowsAt st W (st .root)) ≡ 1 → Lifted st W W′ g r → Sinking st W₀ W′ h₀ g r
   sink-on {g} {W′} e q done =
       let b = done .becomes in
       let p : Lone st W g spare = lone e q in
       let list = lifted-list (single p) in
-      let small : length (entriesOf (lifted (nodes st W) g)) < 1048576 = omega (arith, ap length list, p .keeps .small) in
-      let is : indexAt (nodes st W′) g ≡ lifted (nodes st W) g = index-read (nodes st W′) g (lifted (nodes st W) g) refl refl small (b .holds) in
-      let now : Keeps st W′ (lifted (nodes st W) g) =
+      let small : length (entriesOf (lifted (st .root) (nodes st W) g)) < 1048576 = omega (arith, ap length list, p .keeps .small) in
+      let is : indexAt (st .root) (nodes st W′) g ≡ lifted (st .root) (nodes st W) g = index-read (st .root) (nodes st W′) g (lifted (st .root) (nodes st W) g) refl refl small (b .holds) in
+      let now : Keeps st W′ (lifted (st .root) (nodes st W) g) =
       record { held = b .held; holds = b .holds; apart = lifted-apart (single p); small = small; fit = subst (All Fits) (sym list) (p .keeps .fit) } in
       record {
         keeps = subst (Keeps st W′) (sym is) now;
         header = b .header ∙ m .header;
         spared = done .spared;
-        same = ap collapsed is ∙ lifted-same (single p) ∙ ap (λ (n : ℕ). collapsed (indexAt (nodes st W) n)) (sym e) ∙ m .same;
+        same = ap collapsed is ∙ lifted-same (single p) ∙ ap (λ (n : ℕ). collapsed (indexAt (st .root) (nodes st W) n)) (sym e) ∙ m .same;
       }
 
-  sunk : collapsed (indexAt (nodes st W) h) ≡ indexAt (nodes st W) h
-      → RootSettled st W₀ W (collapsed (indexAt (nodes st W₀) h₀)) (record { height = h; spare = spare })
+  sunk : collapsed (indexAt (st .root) (nodes st W) h) ≡ indexAt (st .root) (nodes st W) h
+      → RootSettled st W₀ W (collapsed (indexAt (st .root) (nodes st W₀) h₀)) (record { height = h; spare = spare })
   sunk e =
-      let is : indexAt (nodes st W) h ≡ collapsed (indexAt (nodes st W₀) h₀) = sym e ∙ m .same in
+      let is : indexAt (st .root) (nodes st W) h ≡ collapsed (indexAt (st .root) (nodes st W₀) h₀) = sym e ∙ m .same in
       record {
         becomes = record { held = m .keeps .held; header = m .header; holds = subst (HoldsIndex (nodes st W)) is (m .keeps .holds) };
         height = ap (λ (x : Index). x .height) is;
@@ -125,9 +125,9 @@ module _ {st : Settings} {W₀ W : List ℕ} {h₀ h : ℕ} {spare : Spare} (m :
       }
 
   -- a leaf, and a root of any other number of children, stay
-  pub sink-leaf : h ≡ 0 → RootSettled st W₀ W (collapsed (indexAt (nodes st W₀) h₀)) (record { height = h; spare = spare })
-  sink-leaf e = sunk (subst (λ (n : ℕ). collapsed (indexAt (nodes st W) n) ≡ indexAt (nodes st W) n) (sym e) (ends-leaf (nodes st W)))
+  pub sink-leaf : h ≡ 0 → RootSettled st W₀ W (collapsed (indexAt (st .root) (nodes st W₀) h₀)) (record { height = h; spare = spare })
+  sink-leaf e = sunk (subst (λ (n : ℕ). collapsed (indexAt (st .root) (nodes st W) n) ≡ indexAt (st .root) (nodes st W) n) (sym e) (ends-leaf (st .root) (nodes st W)))
 
-  pub sink-wide : {g : ℕ} → h ≡ suc g → length (rowsAt st W 0) ≢ 1
-      → RootSettled st W₀ W (collapsed (indexAt (nodes st W₀) h₀)) (record { height = h; spare = spare })
-  sink-wide {g} e q = sunk (subst (λ (n : ℕ). collapsed (indexAt (nodes st W) n) ≡ indexAt (nodes st W) n) (sym e) (ends-wide (nodes st W) g q))
+  pub sink-wide : {g : ℕ} → h ≡ suc g → length (rowsAt st W (st .root)) ≢ 1
+      → RootSettled st W₀ W (collapsed (indexAt (st .root) (nodes st W₀) h₀)) (record { height = h; spare = spare })
+  sink-wide {g} e q = sunk (subst (λ (n : ℕ). collapsed (indexAt (st .root) (nodes st W) n) ≡ indexAt (st .root) (nodes st W) n) (sym e) (ends-wide (st .root) (nodes st W) g q))

@@ -24,9 +24,9 @@ use Rattle.batch_root.specs.declared.Root.{Root}
 
 -- THE POOL BEFORE AND AFTER
 
--- the index of height h that the nodes hold, with its root in slot 0
-abbrev pub indexAt : List S.Node → ℕ → Index
-indexAt ns h = record { height = h; root = treeAt ns h 0; unused = unusedOf ns }
+-- the index of height h that the nodes hold, with its root in some slot
+abbrev pub indexAt : ℕ → List S.Node → ℕ → Index
+indexAt root ns h = record { height = h; root = treeAt ns h root; unused = unusedOf ns }
 
 -- it holds x, no slot of it twice, and totals fit their places in a row
 pub record Keeps (st : Settings) (W : List ℕ) (x : Index) : Type 0 where
@@ -45,13 +45,13 @@ pub record Becomes (st : Settings) (W W′ : List ℕ) (x : Index) : Type 0 wher
 -- A ROOT THAT IS SPLIT
 
 pub record Splits (st : Settings) (W : List ℕ) (h : ℕ) (spare : Spare) : Type 0 where
-  pub keeps : Keeps st W (indexAt (nodes st W) h)
+  pub keeps : Keeps st W (indexAt (st .root) (nodes st W) h)
   pub spared : Spared (nodes st W) spare
   -- one slot for each half
   pub two : 2 ≤ length (unusedOf (nodes st W))
 
 pub record Halved (st : Settings) (W W′ : List ℕ) (h : ℕ) (r : Spare) : Type 0 where
-  pub becomes : Becomes st W W′ (splitRoot h (treeAt (nodes st W) h 0) (unusedOf (nodes st W)))
+  pub becomes : Becomes st W W′ (splitRoot h (treeAt (nodes st W) h (st .root)) (unusedOf (nodes st W)))
   pub spared : Spared (nodes st W′) r
 
 -- its rows go to a new node of its kind, in the lowest unused slot ..
@@ -60,31 +60,33 @@ pub record Moves (st : Settings) (W : List ℕ) (low : ℕ) : Type 0 where
   pub empty : Blank (nodes st W)
   pub slot : low < st .nodes
   pub free : nth (nodes st W) low .kind ≡ 0
-  pub used : nth (nodes st W) 0 .kind ≢ 0
+  pub used : nth (nodes st W) (st .root) .kind ≢ 0
 
-abbrev pub moved : List S.Node → ℕ → List S.Node
-moved ns new = put2 ns new (nth ns 0) 0 (withRows (nth ns 0) [])
+abbrev pub moved : ℕ → List S.Node → ℕ → List S.Node
+moved root ns new = put2 ns new (nth ns root) root (withRows (nth ns root) [])
 
 -- .. and it becomes the parent of that node and another, of height h
 pub record Crowns (st : Settings) (W : List ℕ) (h lower upper : ℕ) : Type 0 where
   pub held : Held st W
+  pub root : st .root < st .nodes
   pub slot : lower < st .nodes
   pub slot2 : upper < st .nodes
   pub sums : Sums h (rowsAt st W lower)
   pub sums2 : Sums h (rowsAt st W upper)
-  pub bare : rowsAt st W 0 ≡ []
+  pub bare : rowsAt st W (st .root) ≡ []
 
-abbrev pub crowned : List S.Node → ℕ → ℕ → ℕ → List S.Node
-crowned ns h lower upper = set ns 0 (record { kind = 2; rows = rowOver h lower (nth ns lower .rows) ∷ rowOver h upper (nth ns upper .rows) ∷ [] })
+abbrev pub crowned : ℕ → List S.Node → ℕ → ℕ → ℕ → List S.Node
+crowned root ns h lower upper =
+    set ns root (record { kind = 2; rows = rowOver h lower (nth ns lower .rows) ∷ rowOver h upper (nth ns upper .rows) ∷ [] })
 
 -- A ROOT AFTER A CALL, with its result
 
 pub record Returned (st : Settings) (W : List ℕ) (root : Root) (v : ChangeResult) : Type 0 where
-  pub keeps : Keeps st W (indexAt (nodes st W) (root .height))
+  pub keeps : Keeps st W (indexAt (st .root) (nodes st W) (root .height))
   pub spared : Spared (nodes st W) (root .spare)
   -- a split takes a slot for each half
   pub two : v ≡ Split → 2 ≤ length (unusedOf (nodes st W))
-  pub gone : v ≡ Remove → treeAt (nodes st W) (root .height) 0 .items ≡ []
+  pub gone : v ≡ Remove → treeAt (nodes st W) (root .height) (st .root) .items ≡ []
   -- one level more can be counted
   pub bounded : root .height < 64
 
@@ -94,22 +96,22 @@ pub record RootSettled (st : Settings) (W W′ : List ℕ) (x : Index) (r : Root
   pub spared : Spared (nodes st W′) (r .spare)
 
 abbrev pub SettledRoot : Settings → List ℕ → List ℕ → ℕ → ChangeResult → Root → Type 0
-SettledRoot st W W′ h v r = RootSettled st W W′ (settleRoot v h (treeAt (nodes st W) h 0) (unusedOf (nodes st W))) r
+SettledRoot st W W′ h v r = RootSettled st W W′ (settleRoot v h (treeAt (nodes st W) h (st .root)) (unusedOf (nodes st W))) r
 
 -- A ROOT WITH ONE CHILD, of height h, gives way to it
 
 pub record Lone (st : Settings) (W : List ℕ) (h : ℕ) (spare : Spare) : Type 0 where
-  pub keeps : Keeps st W (indexAt (nodes st W) (suc h))
+  pub keeps : Keeps st W (indexAt (st .root) (nodes st W) (suc h))
   pub spared : Spared (nodes st W) spare
-  pub one : length (rowsAt st W 0) ≡ 1
+  pub one : length (rowsAt st W (st .root)) ≡ 1
 
-abbrev pub lifted : List S.Node → ℕ → Index
-lifted ns h =
-    let c = childAt ns h 0 0 in
-    record { height = h; root = record { slot = 0; items = c .items }; unused = release (c .slot) (unusedOf ns) }
+abbrev pub lifted : ℕ → List S.Node → ℕ → Index
+lifted root ns h =
+    let c = childAt ns h root 0 in
+    record { height = h; root = record { slot = root; items = c .items }; unused = release (c .slot) (unusedOf ns) }
 
 pub record Lifted (st : Settings) (W W′ : List ℕ) (h : ℕ) (r : Spare) : Type 0 where
-  pub becomes : Becomes st W W′ (lifted (nodes st W) h)
+  pub becomes : Becomes st W W′ (lifted (st .root) (nodes st W) h)
   pub spared : Spared (nodes st W′) r
 
 -- .. as long as there is one

@@ -1,4 +1,4 @@
-// A root that is too long becomes the parent of its two halves, which take new slots. So the root stays in slot 0.
+// A root that is too long becomes the parent of its two halves, which take new slots. So the root stays in its slot.
 ghost use Rattle.words.specs.Words.{words};
 ghost use Rattle.slots.specs.Nodes.{Now, nodes};
 ghost use Rattle.batch_root.specs.Roots.{Splits, Halved, Moves, moved, Crowns, crowned};
@@ -27,22 +27,22 @@ pub fn split_root(pool: &mut [u8], st: Settings, height: usize, spare: Spare) ->
 // Moves the rows of the root to a new node of its kind, in the lowest unused slot.
 fn move_root(pool: &mut [u8], st: Settings, low: usize)
     requires { ⌜ Moves st (words (now pool)) low ⌝ }
-    ensures { λ _. let W = words (now (pool .entry)) in ⌜ Now st W (words (now (pool .exit))) (moved (nodes st W) low) ⌝ }
+    ensures { λ _. let W = words (now (pool .entry)) in ⌜ Now st W (words (now (pool .exit))) (moved (st .root) (nodes st W) low) ⌝ }
 {
-    let k = slots::kind(pool, st, 0);
-    let n = slots::count(pool, st, 0);
+    let k = slots::kind(pool, st, st.root);
+    let n = slots::count(pool, st, st.root);
     slots::set_kind(pool, st, low, k);
-    slots_pair::share_back(pool, st, low, 0, n);
+    slots_pair::share_back(pool, st, low, st.root, n);
 }
 
 // Makes the root, which has no rows left, the parent of two nodes of this height.
 fn crown(pool: &mut [u8], st: Settings, height: usize, lower: usize, upper: usize)
     requires { ⌜ Crowns st (words (now pool)) height lower upper ⌝ }
-    ensures { λ _. let W = words (now (pool .entry)) in ⌜ Now st W (words (now (pool .exit))) (crowned (nodes st W) height lower upper) ⌝ }
+    ensures { λ _. let W = words (now (pool .entry)) in ⌜ Now st W (words (now (pool .exit))) (crowned (st .root) (nodes st W) height lower upper) ⌝ }
 {
     let a = weigh(pool, st, height, lower);
     let b = weigh(pool, st, height, upper);
-    slots::set_kind(pool, st, 0, INTERIOR);
-    slots::insert_row(pool, st, 0, 0, a);
-    slots::insert_row(pool, st, 0, 1, b);
+    slots::set_kind(pool, st, st.root, INTERIOR);
+    slots::insert_row(pool, st, st.root, 0, a);
+    slots::insert_row(pool, st, st.root, 1, b);
 }

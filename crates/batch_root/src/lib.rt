@@ -1,4 +1,4 @@
-// What becomes of the root: one that is too long is split, one with a lone child gives way to it. It stays in slot 0.
+// What becomes of the root: one that is too long is split, one with a lone child gives way to it. It stays in its slot.
 mod grow; // a root that is too long becomes the parent of its two halves
 mod shrink; // a root with one child gives way to it
 

@@ -144,9 +144,9 @@ frame-contents (interior bs) = frame-held Interior (map ofBranch bs) ∙ ap inte
 
 -- A SOUND POOL
 
--- the tree of a sound pool stands in slot 0
+-- the tree of a sound pool stands in its slot
 module _ (l : List ℕ) (s : SoundPool l) where
-  pub sound-standing : Standing (settingsIn l) (words l) (indexOf l .height) 0
+  pub sound-standing : Standing (settingsIn l) (words l) (indexOf l .height) (settingsIn l .root)
   sound-standing =
       let st = settingsIn l in
       let x = indexOf l in
@@ -167,26 +167,26 @@ module _ (l : List ℕ) (s : SoundPool l) where
 
 -- the same of settings and a height that are the pool's own
 module _ (l : List ℕ) (s : SoundPool l) (st : Settings) (h : ℕ) (es : st ≡ settingsIn l) (eh : h ≡ indexOf l .height) where
-  pub node-standing : Standing st (words l) h 0
+  pub node-standing : Standing st (words l) h (st .root)
   node-standing =
-      subst (λ (x : Settings). Standing x (words l) h 0) (sym es) (subst (λ (y : ℕ). Standing (settingsIn l) (words l) y 0) (sym eh) (sound-standing l s))
+      subst (λ (x : Settings). Standing x (words l) h (x .root)) (sym es) (subst (λ (y : ℕ). Standing (settingsIn l) (words l) y (settingsIn l .root)) (sym eh) (sound-standing l s))
 
-  own : (i : ℕ) (r : Found) → Finds st (words l) h 0 i r → Finds (settingsIn l) (words l) (indexOf l .height) 0 i r
-  own i r f = subst (λ (y : ℕ). Finds (settingsIn l) (words l) y 0 i r) eh (subst (λ (x : Settings). Finds x (words l) h 0 i r) es f)
+  own : (i : ℕ) (r : Found) → Finds st (words l) h (st .root) i r → Finds (settingsIn l) (words l) (indexOf l .height) (settingsIn l .root) i r
+  own i r f = subst (λ (y : ℕ). Finds (settingsIn l) (words l) y (settingsIn l .root) i r) eh (subst (λ (x : Settings). Finds x (words l) h (x .root) i r) es f)
 
   -- there is no node i
-  pub node-none : (i left : ℕ) (line : List ℕ) → Finds st (words l) h 0 i (Left left)
+  pub node-none : (i left : ℕ) (line : List ℕ) → Finds st (words l) h (st .root) i (Left left)
       → Writes (writeNode i (length line) (indexOf l)) line (Write.Refused 14) line
   node-none i left line f =
       let past : length (framesOf (indexOf l)) ≤ i = omega (arith, frames-long (indexOf l .height) 0 (indexOf l .root), own i (Left left) f) in
       subst (λ (a : Answer (List ℕ)). Writes a line (Write.Refused 14) line) (sym (ap (written (length line)) (elem-past (framesOf (indexOf l)) i past)))
       (record { answer = refl; line = refl })
 
-  pub node-low : (i t g : ℕ) → Finds st (words l) h 0 i (Node t g) → i ≤ 16384
+  pub node-low : (i t g : ℕ) → Finds st (words l) h (st .root) i (Node t g) → i ≤ 16384
   node-low i t g f = omega (arith, f .1 .0, node-standing .few)
 
   -- the frame of node i
-  pub node-written : (i t g : ℕ) (c : Contents) (line after : List ℕ) (r : WriteAnswer) → Finds st (words l) h 0 i (Node t g)
+  pub node-written : (i t g : ℕ) (c : Contents) (line after : List ℕ) (r : WriteAnswer) → Finds st (words l) h (st .root) i (Node t g)
       → c ≡ contentsOf (frameAt g i (treeAt (nodes st (words l)) g t)) → Writes (fitted (length line) (lineOf (frameOf c))) line r after
       → Writes (writeNode i (length line) (indexOf l)) line r after
   node-written i t g c line after r f e w =

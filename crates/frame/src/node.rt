@@ -39,7 +39,7 @@ pub fn write_node(
     requires { ⌜ height ≡ indexOf (now pool) .height ⌝ }
     ensures { λ r. ⌜ Writes (writeNode i (length (now (line .entry))) (indexOf (now (pool .entry)))) (now (line .entry)) r (now (line .exit)) ⌝ }
 {
-    match find(pool, st, height, 0, i) {
+    match find(pool, st, height, st.root, i) {
         Found::Node(s, h) => {
             let contents = contents_at(pool, st, h, s, i);
             put_frame(contents, line)

@@ -39,8 +39,8 @@ module _ {l : List ℕ} {k : Known} (w : Knows l k) where
   narrow = rw (w .settings) (w .sound .settings .narrow)
 
   -- the index that the root is handed
-  same : indexAt (nodesIn l) (k .height) ≡ indexOf l
-  same = ap (indexAt (nodesIn l)) (w .height)
+  same : indexAt (st .root) (nodesIn l) (k .height) ≡ indexOf l
+  same = ap (indexAt (st .root) (nodesIn l)) (w .height)
 
   module _ (c : Call) where
     abbrev left : ℕ → Left Counts
@@ -84,7 +84,7 @@ module _ {l : List ℕ} {k : Known} (w : Knows l k) where
           abbrev b : Batched
           b = batch st (tasksOf c) (indexOf l)
 
-          from : batch st (tasksOf c) (indexAt (nodesIn l) (k .height)) ≡ b
+          from : batch st (tasksOf c) (indexAt (st .root) (nodesIn l) (k .height)) ≡ b
           from = ap (batch st (tasksOf c)) same
 
           good : D.Batches st c (indexOf l) b

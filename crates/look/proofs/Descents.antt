@@ -132,7 +132,7 @@ module _ (st : Settings) (W : List ℕ) (key : ℕ) where
       down (lower h s g i c q e)
 
   pub arrive : (height h s : ℕ) → h ≤ 0 → Grown st W h s
-      → held key (entries (suc h) (treeAt (nodes st W) h s)) ≡ held key (entries (suc height) (treeAt (nodes st W) height 0)) → Leads st W height key 0 s
+      → held key (entries (suc h) (treeAt (nodes st W) h s)) ≡ held key (entries (suc height) (treeAt (nodes st W) height (st .root))) → Leads st W height key (st .root) s
   arrive height zero s p g e = record { grown = g; same = e }
   arrive height (suc h) s p g e = absurd (omega arith)
 
@@ -168,9 +168,9 @@ present-found k rs = ap (λ (es : List Entry). present k (first k es)) (entries-
         ∙ hit (eqb (keyAt rs (below k rs)) k) refl
     by false e = ap (λ (l : List Row). present k (first k (map entryOf l))) (drop-of-length-le rs (ltb-false (below k rs) (length rs) e))
 
-module _ (st : Settings) (W : List ℕ) (height key leaf : ℕ) (lead : Leads st W height key 0 leaf) where
+module _ (st : Settings) (W : List ℕ) (height key leaf : ℕ) (lead : Leads st W height key (st .root) leaf) where
   pub found-listed : (r f : Found) → Sought (rowsAt st W leaf) key r → r ≡ f
-      → listFound (rowsAt st W leaf) f ≡ present key (held key (entries (suc height) (treeAt (nodes st W) height 0)))
+      → listFound (rowsAt st W leaf) f ≡ present key (held key (entries (suc height) (treeAt (nodes st W) height (st .root))))
   found-listed r f q e =
       ap (listFound (rowsAt st W leaf)) (sym e ∙ q .is) ∙ sym (present-found key (rowsAt st W leaf))
       ∙ ap (λ (es : List Entry). present key (held key es)) (sym (flat-zero (map entryOf (rowsAt st W leaf)))) ∙ ap (present key) (lead .same)

@@ -50,15 +50,15 @@ module _ (l : List ℕ) (st : Settings) (height : ℕ) (k : InPool l st height) 
   sound = sound-index l (k .sound)
 
   -- the root's rows are those of its children
-  root-node : nth (nodesIn l) 0 ≡ nodeFor (indexOf l .height) (indexOf l .root)
-  root-node = ap (nth (nodesIn l)) (sym (slot-read (nodesIn l) (indexOf l .height) 0)) ∙ all-head (sound-holds-index l (k .sound) .tree)
+  root-node : nth (nodesIn l) (settingsIn l .root) ≡ nodeFor (indexOf l .height) (indexOf l .root)
+  root-node = ap (nth (nodesIn l)) (sym (slot-read (nodesIn l) (indexOf l .height) (settingsIn l .root))) ∙ all-head (sound-holds-index l (k .sound) .tree)
 
   root-few : length (entriesOf (indexOf l)) < 1048576
   root-few = omega (arith, entries-most (settingsIn l) (indexOf l) sound)
 
-  pub pool-weighs : Weighs st (words l) height 0
+  pub pool-weighs : Weighs st (words l) height (st .root)
   pool-weighs =
-      own (λ s h. Weighs s (words l) h 0)
+      own (λ s h. Weighs s (words l) h (s .root))
       (record {
         held = sound-held l (k .sound);
         slot = omega (arith, k .sound .settings .many);
@@ -66,20 +66,20 @@ module _ (l : List ℕ) (st : Settings) (height : ℕ) (k : InPool l st height) 
             subst (λ (n : S.Node). Sums (indexOf l .height) (n .rows)) (sym root-node) (sums-fit (indexOf l .height) (indexOf l .root) root-few (sound .fit));
       })
 
-  pub pool-totals : sumRows height (rowsAt st (words l) 0) ≡ totalsOf (indexOf l)
+  pub pool-totals : sumRows height (rowsAt st (words l) (st .root)) ≡ totalsOf (indexOf l)
   pool-totals =
-      own (λ s h. sumRows h (rowsAt s (words l) 0) ≡ totalsOf (indexOf l))
+      own (λ s h. sumRows h (rowsAt s (words l) (s .root)) ≡ totalsOf (indexOf l))
       (ap (λ (n : S.Node). sumRows (indexOf l .height) (n .rows)) root-node ∙ rows-total (indexOf l .height) (indexOf l .root .items) root-few)
 
-  pool-entries : entries (suc height) (treeAt (nodes st (words l)) height 0) ≡ entriesOf (indexOf l)
-  pool-entries = own (λ s h. entries (suc h) (treeAt (nodes s (words l)) h 0) ≡ entriesOf (indexOf l)) refl
+  pool-entries : entries (suc height) (treeAt (nodes st (words l)) height (st .root)) ≡ entriesOf (indexOf l)
+  pool-entries = own (λ s h. entries (suc h) (treeAt (nodes s (words l)) h (s .root)) ≡ entriesOf (indexOf l)) refl
 
-  pool-openings : (q : Request) → openings q height (treeAt (nodes st (words l)) height 0) ≡ openings q (indexOf l .height) (indexOf l .root)
-  pool-openings q = own (λ s h. openings q h (treeAt (nodes s (words l)) h 0) ≡ openings q (indexOf l .height) (indexOf l .root)) refl
+  pool-openings : (q : Request) → openings q height (treeAt (nodes st (words l)) height (st .root)) ≡ openings q (indexOf l .height) (indexOf l .root)
+  pool-openings q = own (λ s h. openings q h (treeAt (nodes s (words l)) h (s .root)) ≡ openings q (indexOf l .height) (indexOf l .root)) refl
 
-  pub pool-grown : Grown st (words l) height 0
+  pub pool-grown : Grown st (words l) height (st .root)
   pool-grown =
-      own (λ s h. Grown s (words l) h 0)
+      own (λ s h. Grown s (words l) h (s .root))
       (record {
         pool = sound-held l (k .sound);
         tree = sound-holds-index l (k .sound) .tree;
@@ -92,9 +92,9 @@ module _ (l : List ℕ) (st : Settings) (height : ℕ) (k : InPool l st height) 
   abbrev pub start : Scanned
   start = record { written = 0; more = false; opened = 0 }
 
-  pub pool-scan : (q : Request) (out : List ℕ) → ToScan st (words l) height 0 q out (length out / 24) start
+  pub pool-scan : (q : Request) (out : List ℕ) → ToScan st (words l) height (st .root) q out (length out / 24) start
   pool-scan q out =
-      own (λ s h. ToScan s (words l) h 0 q out (length out / 24) start)
+      own (λ s h. ToScan s (words l) h (s .root) q out (length out / 24) start)
       (record {
         held = sound-held l (k .sound);
         tree = sound-holds-index l (k .sound) .tree;
@@ -115,7 +115,7 @@ module _ (l : List ℕ) (st : Settings) (height : ℕ) (k : InPool l st height) 
   shown room out o es r s = record { count = s .written; due = s .more; bytes = s .bytes }
 
   pub pool-got : (keys out o : List ℕ) (r : Listed)
-      → page o r ≡ enlistAll (length out / 24) (found keys (entries (suc height) (treeAt (nodes st (words l)) height 0))) (freshPage out)
+      → page o r ≡ enlistAll (length out / 24) (found keys (entries (suc height) (treeAt (nodes st (words l)) height (st .root)))) (freshPage out)
       → Writes (getAll keys (roomIn out) (indexOf l)) out (r .written) (r .more) o
   pool-got keys out o r e =
       let room : ℕ = length out / 24 in
@@ -126,7 +126,7 @@ module _ (l : List ℕ) (st : Settings) (height : ℕ) (k : InPool l st height) 
       (shows-all room out [] (found keys (entriesOf (indexOf l))) (freshPage out) (shows-none room out)))
 
   module _ (q : Request) (out o : List ℕ) (r : Scanned)
-      (e : walkAt o r ≡ visitAll (length out / 24) (openings q height (treeAt (nodes st (words l)) height 0)) (walkAt out start)) where
+      (e : walkAt o r ≡ visitAll (length out / 24) (openings q height (treeAt (nodes st (words l)) height (st .root))) (walkAt out start)) where
     walked : walkAt o r ≡ visitAll (length out / 24) (openings q (indexOf l .height) (indexOf l .root)) (walkAt out start)
     walked = e ∙ ap (λ (ns : List (List Entry)). visitAll (length out / 24) ns (walkAt out start)) (pool-openings q)
 

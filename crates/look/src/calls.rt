@@ -23,7 +23,7 @@ pub fn totals(pool: &[u8], st: Settings, height: usize) -> Totals
     requires { ⌜ InPool (now pool) st height ⌝ }
     ensures { λ r. ⌜ r ≡ totalsOf (indexOf (now (pool .entry))) ⌝ }
 {
-    tree_node::stats(pool, st, height, 0)
+    tree_node::stats(pool, st, height, st.root)
 }
 
 // Lists one entry for each key that is present (the Rust's `get`).
@@ -62,5 +62,5 @@ pub fn scan(
         opened: 0,
     };
     let room = out.len() / 24;
-    scan_node(pool, st, height, 0, q, out, room, w)
+    scan_node(pool, st, height, st.root, q, out, room, w)
 }

@@ -28,9 +28,9 @@ pub fn get_keys(
     out: &mut [u8],
     room: usize,
 ) -> Listed
-    requires { ⌜ Grown st (words (now pool)) height 0 ⌝ }
+    requires { ⌜ Grown st (words (now pool)) height (st .root) ⌝ }
     requires { ⌜ 24 * room ≤ length (now out) ⌝ }
-    ensures { λ r. ⌜ page (now (out .exit)) r ≡ enlistAll room (found (now (keys .entry)) (entries (suc height) (treeAt (nodes st (words (now (pool .entry)))) height 0))) (freshPage (now (out .entry))) ⌝ }
+    ensures { λ r. ⌜ page (now (out .exit)) r ≡ enlistAll room (found (now (keys .entry)) (entries (suc height) (treeAt (nodes st (words (now (pool .entry)))) height (st .root)))) (freshPage (now (out .entry))) ⌝ }
 {
     let mut l = Listed {
         written: 0,
@@ -55,10 +55,10 @@ fn get_key(
     room: usize,
     l: Listed,
 ) -> Listed
-    requires { ⌜ Grown st (words (now pool)) height 0 ⌝ }
+    requires { ⌜ Grown st (words (now pool)) height (st .root) ⌝ }
     requires { ⌜ 24 * room ≤ length (now out) ⌝ }
     requires { ⌜ l .more ≡ false ⌝ }
-    ensures { λ r. ⌜ page (now (out .exit)) r ≡ enlistAll room (present key (held key (entries (suc height) (treeAt (nodes st (words (now (pool .entry)))) height 0)))) (page (now (out .entry)) l) ⌝ }
+    ensures { λ r. ⌜ page (now (out .exit)) r ≡ enlistAll room (present key (held key (entries (suc height) (treeAt (nodes st (words (now (pool .entry)))) height (st .root))))) (page (now (out .entry)) l) ⌝ }
 {
     let leaf = leaf_for(pool, st, height, key);
     let sought = slots_find::search(pool, st, leaf, key);
@@ -73,10 +73,10 @@ fn get_key(
 
 // The leaf where a key stands, if it is present: down from the root, whose height falls to 0.
 fn leaf_for(pool: &[u8], st: Settings, height: usize, key: u64) -> usize
-    requires { ⌜ Grown st (words (now pool)) height 0 ⌝ }
-    ensures { λ r. ⌜ Leads st (words (now (pool .entry))) height key 0 r ⌝ }
+    requires { ⌜ Grown st (words (now pool)) height (st .root) ⌝ }
+    ensures { λ r. ⌜ Leads st (words (now (pool .entry))) height key (st .root) r ⌝ }
 {
-    let mut s = 0;
+    let mut s = st.root;
     let mut h = height;
     while 0 < h {
         let i = child_for(pool, st, s, 0, key);

@@ -85,7 +85,12 @@ pub fn raw_move(pool: &mut [u8], st: Settings, s: usize, from: usize, t: usize, 
 {
     let a = base(pool, st, s);
     let b = base(pool, st, t);
-    words_runs::shift(pool, a + (HEAD + from * ROW), b + (HEAD + to * ROW), n * ROW);
+    words_runs::shift(
+        pool,
+        a + (HEAD + from * ROW),
+        b + (HEAD + to * ROW),
+        n * ROW,
+    );
 }
 
 // Makes `n` rows of slot `s`, from row `from` on, blank.

@@ -1,9 +1,13 @@
 -- `settle_root` meets its contract: of each result the root is left as the model leaves it (`proofs/Settled`). Assumes nothing.
 use mathlib.Core.Path.{refl}
 use borrow.Author.Needs.{needs}
+use Rattle.batch_root.proofs.Indexes.{keeps-root}
 use Rattle.batch.proofs.Settled.{to-halve, split-settled, gone-settled, stays-settled}
 use Rattle.batch.proofs.settle_root.Statement.{statement}
 use Rattle.batch.proofs.settle_root.Tie as tie
+
+set-kind-requires : tie.Need-set-kind-requires
+set-kind-requires c κs = let keeps = c .before .before .before .before .pre .keeps in record { held = keeps .held; slot = keeps-root keeps }
 
 returns : tie.Need-returns
 returns c =
@@ -25,7 +29,7 @@ settle-root-spec =
     (λ c. search needs)
     returns
     (λ c. search needs)
-    (λ c κs. search needs)
+    set-kind-requires
     (λ c. search needs)
     returns-2
     (λ c. search needs)

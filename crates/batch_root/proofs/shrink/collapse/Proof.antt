@@ -5,6 +5,7 @@ use native.Mathlib.Omega.{arith}
 use lib.ListN.{length}
 use borrow.Author.Tests.{eqb-true, eqb-false}
 use Rattle.words.specs.Words.{words}
+use Rattle.batch_root.proofs.Indexes.{keeps-root}
 use Rattle.batch_root.proofs.Sinks.{Sinking, sink-start, lone, sink-on, sink-leaf, sink-wide}
 use Rattle.batch_root.proofs.shrink.collapse.Statement.{statement}
 use Rattle.batch_root.proofs.shrink.collapse.Tie as tie
@@ -18,8 +19,8 @@ abbrev μ-loop : tie.MeasureT-loop
 
 count-requires : tie.Need-count-requires Inv-loop μ-loop
 count-requires c κs =
-    let held = c .before .before .loop .inv .1 .keeps .held in
-    record { held = held; slot = omega (arith, held .shape .limits .many) }
+    let keeps = c .before .before .loop .inv .1 .keeps in
+    record { held = keeps .held; slot = keeps-root keeps }
 
 lift-child-requires : tie.Need-lift-child-requires Inv-loop μ-loop
 lift-child-requires c κs =

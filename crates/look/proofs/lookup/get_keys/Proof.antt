@@ -19,7 +19,7 @@ use Rattle.look.proofs.lookup.get_keys.Tie as tie
 
 abbrev Inv-loop : tie.InvT-loop
 Inv-loop pool st height keys out₀ room l₀ k₀ out l k =
-    let es = entries (suc height) (treeAt (nodes st (words pool)) height 0) in
+    let es = entries (suc height) (treeAt (nodes st (words pool)) height (st .root)) in
     (k ≤ length keys) × ((length out ≡ length out₀) × (enlistAll room (found (drop k keys) es) (page out l) ≡ enlistAll room (found keys es) (freshPage out₀)))
 
 abbrev μ-loop : tie.MeasureT-loop
@@ -40,7 +40,7 @@ loop-again c =
     let start = loop .before .before .before .before in
     let a = start .args in
     let at = loop .loop in
-    let es = entries (suc (a .height)) (treeAt (nodes (a .st) (words (a .pool .now))) (a .height) 0) in
+    let es = entries (suc (a .height)) (treeAt (nodes (a .st) (words (a .pool .now))) (a .height) (a .st .root)) in
     let got = listed .get-key in (
       omega (arith, listed .before .before .before .before .before .loop-test .taken),
       (
@@ -55,14 +55,14 @@ returns : tie.Need-returns Inv-loop μ-loop
 returns c =
     let a = c .before .before .before .before .before .before .before .args in
     let at = c .before .before .before .loop in
-    let es = entries (suc (a .height)) (treeAt (nodes (a .st) (words (a .pool .now))) (a .height) 0) in
+    let es = entries (suc (a .height)) (treeAt (nodes (a .st) (words (a .pool .now))) (a .height) (a .st .root)) in
     sym (ended (a .room) (found (drop (at .k) (a .keys .now)) es) (page (at .out) (at .l)) (not-false _ (c .if1 .left))) ∙ at .inv .1 .1
 
 returns-2 : tie.Need-returns-2 Inv-loop μ-loop
 returns-2 c =
     let a = c .before .before .before .before .before .args in
     let at = c .before .loop in
-    let es = entries (suc (a .height)) (treeAt (nodes (a .st) (words (a .pool .now))) (a .height) 0) in
+    let es = entries (suc (a .height)) (treeAt (nodes (a .st) (words (a .pool .now))) (a .height) (a .st .root)) in
     sym (keys-end (a .room) (a .keys .now) es (page (at .out) (at .l)) (at .k) (c .loop-test .left)) ∙ at .inv .1 .1
 
 pub get-keys-spec : {M : Type 1} → statement M
