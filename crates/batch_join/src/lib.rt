@@ -32,8 +32,8 @@ pub fn absorb(
     i: usize,
     spare: Spare,
 ) -> Standing
-    requires { ⌜ Poised st (words (now pool)) below s i spare 0 ⌝ }
-    requires { ⌜ Says st Absorb (childAt (nodes st (words (now pool))) below s i) ⌝ }
+    requires steps { ⌜ Poised st (words (now pool)) below s i spare 0 ⌝ }
+    requires says { ⌜ Says st Absorb (childAt (nodes st (words (now pool))) below s i) ⌝ }
     ensures { λ r. ⌜ Done st (words (now (pool .entry))) (words (now (pool .exit))) below s i Absorb r ⌝ }
 {
     if slots::count(pool, st, s) == 1 {
@@ -53,11 +53,14 @@ fn join_children(
     i: usize,
     spare: Spare,
 ) -> Spare
-    requires { ⌜ Neighbours st (words (now pool)) below s i ⌝ }
-    requires { ⌜ len (childAt (nodes st (words (now pool))) below s i) ≤ st .order ⌝ }
-    requires { ⌜ len (childAt (nodes st (words (now pool))) below s (i + 1)) ≤ st .order ⌝ }
-    requires { ⌜ Spared (nodes st (words (now pool))) spare ⌝ }
-    ensures { λ r. let W = words (now (pool .entry)) in let ns = nodes st W in ⌜ Rowed st W (words (now (pool .exit))) below s i r (followed (join st (childAt ns below s i) (childAt ns below s (i + 1)) (unusedOf ns)) (afterAt ns below s (i + 1))) ⌝ }
+    requires neighbours { ⌜ Neighbours st (words (now pool)) below s i ⌝ }
+    requires lower { ⌜ len (childAt (nodes st (words (now pool))) below s i) ≤ st .order ⌝ }
+    requires upper { ⌜ len (childAt (nodes st (words (now pool))) below s (i + 1)) ≤ st .order ⌝ }
+    requires spared { ⌜ Spared (nodes st (words (now pool))) spare ⌝ }
+    ensures { λ r. let W = words (now (pool .entry)) in
+        let ns = nodes st W in
+        ⌜ Rowed st W (words (now (pool .exit))) below s i r (followed
+        (join st (childAt ns below s i) (childAt ns below s (i + 1)) (unusedOf ns)) (afterAt ns below s (i + 1))) ⌝ }
 {
     if child_len(pool, st, below, s, i) + child_len(pool, st, below, s, i + 1) <= st.order {
         return merge(pool, st, below, s, i, spare);
@@ -68,10 +71,16 @@ fn join_children(
 
 // The rows of child `i + 1` go to the end of child `i`, and its slot is unused from now on.
 fn merge(pool: &mut [u8], st: Settings, below: usize, s: usize, i: usize, spare: Spare) -> Spare
-    requires { ⌜ Neighbours st (words (now pool)) below s i ⌝ }
-    requires { ⌜ len (childAt (nodes st (words (now pool))) below s i) + len (childAt (nodes st (words (now pool))) below s (i + 1)) ≤ st .order ⌝ }
-    requires { ⌜ Spared (nodes st (words (now pool))) spare ⌝ }
-    ensures { λ r. let W = words (now (pool .entry)) in let ns = nodes st W in let p = childAt ns below s i in let c = childAt ns below s (i + 1) in ⌜ Rowed st W (words (now (pool .exit))) below s i r (record { nodes = refill p (p .items ++ c .items) ∷ afterAt ns below s (i + 1); unused = release (c .slot) (unusedOf ns) }) ⌝ }
+    requires neighbours { ⌜ Neighbours st (words (now pool)) below s i ⌝ }
+    requires fits { ⌜ len (childAt (nodes st (words (now pool))) below s i) + len (childAt (nodes st (words (now pool))) below s (i + 1)) ≤
+        st .order ⌝ }
+    requires spared { ⌜ Spared (nodes st (words (now pool))) spare ⌝ }
+    ensures { λ r. let W = words (now (pool .entry)) in
+        let ns = nodes st W in
+        let p = childAt ns below s i in
+        let c = childAt ns below s (i + 1) in
+        ⌜ Rowed st W (words (now (pool .exit))) below s i r (record
+        { nodes = refill p (p .items ++ c .items) ∷ afterAt ns below s (i + 1); unused = release (c .slot) (unusedOf ns) }) ⌝ }
 {
     let p = child_at(pool, st, s, i);
     let c = child_at(pool, st, s, i + 1);
@@ -83,10 +92,14 @@ fn merge(pool: &mut [u8], st: Settings, below: usize, s: usize, i: usize, spare:
 
 // Children `i` and `i + 1` share their rows, the lower half of them in child `i`.
 fn even_out(pool: &mut [u8], st: Settings, below: usize, s: usize, i: usize)
-    requires { ⌜ Neighbours st (words (now pool)) below s i ⌝ }
-    requires { ⌜ len (childAt (nodes st (words (now pool))) below s i) ≤ st .order ⌝ }
-    requires { ⌜ len (childAt (nodes st (words (now pool))) below s (i + 1)) ≤ st .order ⌝ }
-    ensures { λ _. let W = words (now (pool .entry)) in let ns = nodes st W in let p = childAt ns below s i in let c = childAt ns below s (i + 1) in ⌜ Parted st W (words (now (pool .exit))) below s i (halved (refill p (p .items ++ c .items)) (c .slot)) ⌝ }
+    requires neighbours { ⌜ Neighbours st (words (now pool)) below s i ⌝ }
+    requires lower { ⌜ len (childAt (nodes st (words (now pool))) below s i) ≤ st .order ⌝ }
+    requires upper { ⌜ len (childAt (nodes st (words (now pool))) below s (i + 1)) ≤ st .order ⌝ }
+    ensures { λ _. let W = words (now (pool .entry)) in
+        let ns = nodes st W in
+        let p = childAt ns below s i in
+        let c = childAt ns below s (i + 1) in
+        ⌜ Parted st W (words (now (pool .exit))) below s i (halved (refill p (p .items ++ c .items)) (c .slot)) ⌝ }
 {
     let p = child_at(pool, st, s, i);
     let c = child_at(pool, st, s, i + 1);
@@ -118,8 +131,8 @@ pub fn take_out(
     i: usize,
     spare: Spare,
 ) -> Standing
-    requires { ⌜ Poised st (words (now pool)) below s i spare 0 ⌝ }
-    requires { ⌜ Says st Remove (childAt (nodes st (words (now pool))) below s i) ⌝ }
+    requires steps { ⌜ Poised st (words (now pool)) below s i spare 0 ⌝ }
+    requires says { ⌜ Says st Remove (childAt (nodes st (words (now pool))) below s i) ⌝ }
     ensures { λ r. ⌜ Done st (words (now (pool .entry))) (words (now (pool .exit))) below s i Remove r ⌝ }
 {
     let c = child_at(pool, st, s, i);

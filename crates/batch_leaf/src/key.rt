@@ -53,7 +53,8 @@ fn place_of(found: Found) -> usize
 // Does what is decided at row `i` of leaf `s`.
 fn perform(pool: &mut [u8], st: Settings, s: usize, i: usize, key: u64, e: Effect)
     requires { ⌜ Able st (words (now pool)) s i e ⌝ }
-    ensures { λ _. let W = words (now (pool .entry)) in ⌜ Now st W (words (now (pool .exit))) (putRows (nodes st W) s (performed (rowsAt st W s) i key e)) ⌝ }
+    ensures { λ _. let W = words (now (pool .entry)) in
+        ⌜ Now st W (words (now (pool .exit))) (putRows (nodes st W) s (performed (rowsAt st W s) i key e)) ⌝ }
 {
     match e {
         Effect::Leave => {}

@@ -55,8 +55,8 @@ fn interior_change(
     op: Operation,
     run: Run,
 ) -> Reply
-    requires { ⌜ 0 < node .height ⌝ }
-    requires { ⌜ ToChange st (words (now pool)) (suc (node .height - 1)) node (call op (now places) (now sizes) (now keys)) run ⌝ }
+    requires interior { ⌜ 0 < node .height ⌝ }
+    requires asked { ⌜ ToChange st (words (now pool)) (suc (node .height - 1)) node (call op (now places) (now sizes) (now keys)) run ⌝ }
     ensures { λ r. let b = call op (now (places .entry)) (now (sizes .entry)) (now (keys .entry)) in
         ⌜ Came st (words (now (pool .entry))) (words (now (pool .exit))) (suc (node .height - 1)) node b run r ⌝ }
 {

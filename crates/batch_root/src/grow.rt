@@ -38,7 +38,8 @@ fn move_root(pool: &mut [u8], st: Settings, low: usize)
 // Makes the root, which has no rows left, the parent of two nodes of this height.
 fn crown(pool: &mut [u8], st: Settings, height: usize, lower: usize, upper: usize)
     requires { ⌜ Crowns st (words (now pool)) height lower upper ⌝ }
-    ensures { λ _. let W = words (now (pool .entry)) in ⌜ Now st W (words (now (pool .exit))) (crowned (st .root) (nodes st W) height lower upper) ⌝ }
+    ensures { λ _. let W = words (now (pool .entry)) in
+        ⌜ Now st W (words (now (pool .exit))) (crowned (st .root) (nodes st W) height lower upper) ⌝ }
 {
     let a = weigh(pool, st, height, lower);
     let b = weigh(pool, st, height, upper);

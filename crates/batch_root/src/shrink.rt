@@ -10,9 +10,10 @@ use tree_spare::after_freeing;
 
 // While an interior root has one child, moves that child into the root's slot.
 pub fn collapse(pool: &mut [u8], st: Settings, root: Root) -> Root
-    requires { ⌜ Keeps st (words (now pool)) (indexAt (st .root) (nodes st (words (now pool))) (root .height)) ⌝ }
-    requires { ⌜ Spared (nodes st (words (now pool))) (root .spare) ⌝ }
-    ensures { λ r. let W = words (now (pool .entry)) in ⌜ RootSettled st W (words (now (pool .exit))) (collapsed (indexAt (st .root) (nodes st W) (root .height))) r ⌝ }
+    requires keeps { ⌜ Keeps st (words (now pool)) (indexAt (st .root) (nodes st (words (now pool))) (root .height)) ⌝ }
+    requires spared { ⌜ Spared (nodes st (words (now pool))) (root .spare) ⌝ }
+    ensures { λ r. let W = words (now (pool .entry)) in
+        ⌜ RootSettled st W (words (now (pool .exit))) (collapsed (indexAt (st .root) (nodes st W) (root .height))) r ⌝ }
 {
     let mut height = root.height;
     let mut spare = root.spare;

@@ -31,8 +31,8 @@ pub fn share_out(
     i: usize,
     spare: Spare,
 ) -> Standing
-    requires { ⌜ Poised st (words (now pool)) below s i spare 1 ⌝ }
-    requires { ⌜ Says st Split (childAt (nodes st (words (now pool))) below s i) ⌝ }
+    requires steps { ⌜ Poised st (words (now pool)) below s i spare 1 ⌝ }
+    requires says { ⌜ Says st Split (childAt (nodes st (words (now pool))) below s i) ⌝ }
     ensures { λ r. ⌜ Done st (words (now (pool .entry))) (words (now (pool .exit))) below s i Split r ⌝ }
 {
     if room_before(pool, st, below, s, i) {
@@ -65,7 +65,9 @@ fn share_next(
     spare: Spare,
 ) -> Spare
     requires { ⌜ Poised st (words (now pool)) below s i spare 1 ⌝ }
-    ensures { λ r. let W = words (now (pool .entry)) in let ns = nodes st W in ⌜ Rowed st W (words (now (pool .exit))) below s i r (shareNext st (childAt ns below s i) (afterAt ns below s i) (unusedOf ns)) ⌝ }
+    ensures { λ r. let W = words (now (pool .entry)) in
+        let ns = nodes st W in
+        ⌜ Rowed st W (words (now (pool .exit))) below s i r (shareNext st (childAt ns below s i) (afterAt ns below s i) (unusedOf ns)) ⌝ }
 {
     let n = slots::count(pool, st, s);
     if i + 1 == n {
@@ -88,7 +90,10 @@ fn split_over(
     spare: Spare,
 ) -> Spare
     requires { ⌜ Poised st (words (now pool)) below s i spare 1 ⌝ }
-    ensures { λ r. let W = words (now (pool .entry)) in let ns = nodes st W in ⌜ Rowed st W (words (now (pool .exit))) below s i r (followed (splitOver st (childAt ns below s i) (unusedOf ns)) (afterAt ns below s i)) ⌝ }
+    ensures { λ r. let W = words (now (pool .entry)) in
+        let ns = nodes st W in
+        ⌜ Rowed st W (words (now (pool .exit))) below s i r (followed (splitOver st (childAt ns below s i) (unusedOf ns))
+        (afterAt ns below s i)) ⌝ }
 {
     if child_len(pool, st, below, s, i) <= st.order {
         return spare;
@@ -106,7 +111,12 @@ fn split_child(
     spare: Spare,
 ) -> Spare
     requires { ⌜ Poised st (words (now pool)) below s i spare 1 ⌝ }
-    ensures { λ r. let W = words (now (pool .entry)) in let ns = nodes st W in let us = unusedOf ns in let two = halved (childAt ns below s i) (lowest us) in ⌜ Rowed st W (words (now (pool .exit))) below s i r (record { nodes = two .lower ∷ two .upper ∷ afterAt ns below s i; unused = others us }) ⌝ }
+    ensures { λ r. let W = words (now (pool .entry)) in
+        let ns = nodes st W in
+        let us = unusedOf ns in
+        let two = halved (childAt ns below s i) (lowest us) in
+        ⌜ Rowed st W (words (now (pool .exit))) below s i r (record
+        { nodes = two .lower ∷ two .upper ∷ afterAt ns below s i; unused = others us }) ⌝ }
 {
     let c = child_at(pool, st, s, i);
     let n = slots::count(pool, st, c);
@@ -120,10 +130,12 @@ fn split_child(
 
 // Child `i + 1` hands its first rows to child `i`. (The Rust's `steal_children_from_start`.)
 fn give_back(pool: &mut [u8], st: Settings, below: usize, s: usize, i: usize)
-    requires { ⌜ Neighbours st (words (now pool)) below s i ⌝ }
-    requires { ⌜ len (childAt (nodes st (words (now pool))) below s i) ≤ st .order ⌝ }
-    requires { ⌜ st .minimum ≤ len (childAt (nodes st (words (now pool))) below s (i + 1)) ⌝ }
-    ensures { λ _. let W = words (now (pool .entry)) in let ns = nodes st W in ⌜ Parted st W (words (now (pool .exit))) below s i (shareBack st (childAt ns below s i) (childAt ns below s (i + 1))) ⌝ }
+    requires neighbours { ⌜ Neighbours st (words (now pool)) below s i ⌝ }
+    requires lower { ⌜ len (childAt (nodes st (words (now pool))) below s i) ≤ st .order ⌝ }
+    requires upper { ⌜ st .minimum ≤ len (childAt (nodes st (words (now pool))) below s (i + 1)) ⌝ }
+    ensures { λ _. let W = words (now (pool .entry)) in
+        let ns = nodes st W in
+        ⌜ Parted st W (words (now (pool .exit))) below s i (shareBack st (childAt ns below s i) (childAt ns below s (i + 1))) ⌝ }
 {
     let p = child_at(pool, st, s, i);
     let c = child_at(pool, st, s, i + 1);
@@ -134,10 +146,12 @@ fn give_back(pool: &mut [u8], st: Settings, below: usize, s: usize, i: usize)
 
 // Child `i` hands its last rows to child `i + 1`. (The Rust's `steal_children_from_end`.)
 fn give_on(pool: &mut [u8], st: Settings, below: usize, s: usize, i: usize)
-    requires { ⌜ Neighbours st (words (now pool)) below s i ⌝ }
-    requires { ⌜ st .minimum ≤ len (childAt (nodes st (words (now pool))) below s i) ⌝ }
-    requires { ⌜ len (childAt (nodes st (words (now pool))) below s (i + 1)) ≤ st .order ⌝ }
-    ensures { λ _. let W = words (now (pool .entry)) in let ns = nodes st W in ⌜ Parted st W (words (now (pool .exit))) below s i (shareOn st (childAt ns below s i) (childAt ns below s (i + 1))) ⌝ }
+    requires neighbours { ⌜ Neighbours st (words (now pool)) below s i ⌝ }
+    requires lower { ⌜ st .minimum ≤ len (childAt (nodes st (words (now pool))) below s i) ⌝ }
+    requires upper { ⌜ len (childAt (nodes st (words (now pool))) below s (i + 1)) ≤ st .order ⌝ }
+    ensures { λ _. let W = words (now (pool .entry)) in
+        let ns = nodes st W in
+        ⌜ Parted st W (words (now (pool .exit))) below s i (shareOn st (childAt ns below s i) (childAt ns below s (i + 1))) ⌝ }
 {
     let c = child_at(pool, st, s, i);
     let n = child_at(pool, st, s, i + 1);

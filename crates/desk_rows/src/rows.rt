@@ -28,12 +28,13 @@ pub fn read_rows(
     places: &mut [u64],
     sizes: &mut [u32],
 ) -> usize
-    requires { ⌜ Lends (now keys) (now places) (now sizes) ⌝ }
-    requires { ⌜ (4 ≤ from) × (from ≤ length (now line)) × (length (now line) ≤ 255) ⌝ }
-    ensures { λ r. ⌜ rowsRead r (now (keys .exit)) (now (places .exit)) (now (sizes .exit)) ≡ rowsIn triples (fieldsFrom (now (line .entry)) from) ⌝ }
-    ensures { λ r. ⌜ Lends (now (keys .exit)) (now (places .exit)) (now (sizes .exit)) ⌝ }
-    ensures { λ r. ⌜ r ≤ 128 ⌝ }
-    ensures { λ r. ⌜ ((r ≡ 0 → ⊥) → Past r (now (keys .entry)) (now (places .entry)) (now (sizes .entry))
+    requires lent { ⌜ Lends (now keys) (now places) (now sizes) ⌝ }
+    requires placed { ⌜ (4 ≤ from) × (from ≤ length (now line)) × (length (now line) ≤ 255) ⌝ }
+    ensures read { λ r.
+        ⌜ rowsRead r (now (keys .exit)) (now (places .exit)) (now (sizes .exit)) ≡ rowsIn triples (fieldsFrom (now (line .entry)) from) ⌝ }
+    ensures lent { λ r. ⌜ Lends (now (keys .exit)) (now (places .exit)) (now (sizes .exit)) ⌝ }
+    ensures few { λ r. ⌜ r ≤ 128 ⌝ }
+    ensures past { λ r. ⌜ ((r ≡ 0 → ⊥) → Past r (now (keys .entry)) (now (places .entry)) (now (sizes .entry))
         (now (keys .exit)) (now (places .exit)) (now (sizes .exit))) ⌝ }
 {
     let mut at = from;

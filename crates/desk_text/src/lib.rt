@@ -11,8 +11,8 @@ pub const ROOM: usize = 89;
 // Puts a text at a place, and answers the place behind it.
 pub fn put(bytes: &mut [u8], at: usize, text: &[u8]) -> usize
     requires { ⌜ at + length (now text) ≤ length (now bytes) ⌝ }
-    ensures { λ r. ⌜ r ≡ at + length (now (text .entry)) ⌝ }
-    ensures { λ r. ⌜ now (bytes .exit) ≡ over at (now (text .entry)) (now (bytes .entry)) ⌝ }
+    ensures end { λ r. ⌜ r ≡ at + length (now (text .entry)) ⌝ }
+    ensures written { λ r. ⌜ now (bytes .exit) ≡ over at (now (text .entry)) (now (bytes .entry)) ⌝ }
 {
     let mut i = 0;
     while i < text.len() {
@@ -25,9 +25,9 @@ pub fn put(bytes: &mut [u8], at: usize, text: &[u8]) -> usize
 // Puts a space and a number in decimal.
 fn put_number(bytes: &mut [u8], at: usize, n: u64) -> usize
     requires { ⌜ at + 21 ≤ length (now bytes) ⌝ }
-    ensures { λ r. ⌜ r ≡ at + length (spaced n) ⌝ }
-    ensures { λ r. ⌜ r ≤ at + 21 ⌝ }
-    ensures { λ r. ⌜ now (bytes .exit) ≡ over at (spaced n) (now (bytes .entry)) ⌝ }
+    ensures end { λ r. ⌜ r ≡ at + length (spaced n) ⌝ }
+    ensures short { λ r. ⌜ r ≤ at + 21 ⌝ }
+    ensures written { λ r. ⌜ now (bytes .exit) ≡ over at (spaced n) (now (bytes .entry)) ⌝ }
 {
     let mut digits = [0u8; 20];
     let k = io::decimal(n, &mut digits);
@@ -38,8 +38,8 @@ fn put_number(bytes: &mut [u8], at: usize, n: u64) -> usize
 // `done` and the four counts, in the first bytes; answers how many they are.
 pub fn say_done(bytes: &mut [u8], c: Counts) -> usize
     requires { ⌜ 89 ≤ length (now bytes) ⌝ }
-    ensures { λ r. ⌜ r ≡ length (doneText c) ⌝ }
-    ensures { λ r. ⌜ now (bytes .exit) ≡ over 0 (doneText c) (now (bytes .entry)) ⌝ }
+    ensures end { λ r. ⌜ r ≡ length (doneText c) ⌝ }
+    ensures written { λ r. ⌜ now (bytes .exit) ≡ over 0 (doneText c) (now (bytes .entry)) ⌝ }
 {
     let word = put(bytes, 0, b"done");
     let added = put_number(bytes, word, c.added as u64);
@@ -52,8 +52,8 @@ pub fn say_done(bytes: &mut [u8], c: Counts) -> usize
 // `refused` and the number.
 pub fn say_refused(bytes: &mut [u8], n: u32) -> usize
     requires { ⌜ 89 ≤ length (now bytes) ⌝ }
-    ensures { λ r. ⌜ r ≡ length (refusedText n) ⌝ }
-    ensures { λ r. ⌜ now (bytes .exit) ≡ over 0 (refusedText n) (now (bytes .entry)) ⌝ }
+    ensures end { λ r. ⌜ r ≡ length (refusedText n) ⌝ }
+    ensures written { λ r. ⌜ now (bytes .exit) ≡ over 0 (refusedText n) (now (bytes .entry)) ⌝ }
 {
     let word = put(bytes, 0, b"refused");
     let number = put_number(bytes, word, n as u64);

@@ -34,10 +34,11 @@ pub fn write_node(
     i: usize,
     line: &mut [u8],
 ) -> WriteAnswer
-    requires { ⌜ SoundPool (now pool) ⌝ }
-    requires { ⌜ st ≡ settingsIn (now pool) ⌝ }
-    requires { ⌜ height ≡ indexOf (now pool) .height ⌝ }
-    ensures { λ r. ⌜ Writes (writeNode i (length (now (line .entry))) (indexOf (now (pool .entry)))) (now (line .entry)) r (now (line .exit)) ⌝ }
+    requires sound { ⌜ SoundPool (now pool) ⌝ }
+    requires own { ⌜ st ≡ settingsIn (now pool) ⌝ }
+    requires tall { ⌜ height ≡ indexOf (now pool) .height ⌝ }
+    ensures { λ r.
+        ⌜ Writes (writeNode i (length (now (line .entry))) (indexOf (now (pool .entry)))) (now (line .entry)) r (now (line .exit)) ⌝ }
 {
     match find(pool, st, height, st.root, i) {
         Found::Node(s, h) => {
@@ -50,8 +51,8 @@ pub fn write_node(
 
 // Kind and entries of node `i` in preorder, which is in slot `s` and has the height `height`.
 fn contents_at(pool: &[u8], st: Settings, height: usize, s: usize, i: usize) -> Contents
-    requires { ⌜ Standing st (words (now pool)) height s ⌝ }
-    requires { ⌜ i ≤ 16384 ⌝ }
+    requires stands { ⌜ Standing st (words (now pool)) height s ⌝ }
+    requires low { ⌜ i ≤ 16384 ⌝ }
     ensures { λ r. ⌜ r ≡ contentsOf (frameAt height i (treeAt (nodes st (words (now (pool .entry)))) height s)) ⌝ }
 {
     let n = slots::count(pool, st, s);
@@ -82,8 +83,8 @@ fn kind_at(height: usize) -> Kind
 
 // The frame's entry of a row; a child has the number `child`.
 fn entry_for(row: Row, height: usize, child: usize) -> FrameEntry
-    requires { ⌜ child < 4294967296 ⌝ }
-    requires { ⌜ (height ≡ 0 → row .size < 4294967296) ⌝ }
+    requires numbered { ⌜ child < 4294967296 ⌝ }
+    requires sized { ⌜ (height ≡ 0 → row .size < 4294967296) ⌝ }
     ensures { λ r. ⌜ r ≡ entryFor height row child ⌝ }
 {
     if height == 0 {
@@ -95,9 +96,11 @@ fn entry_for(row: Row, height: usize, child: usize) -> FrameEntry
 
 // How many nodes row `j` stands for: those of a child, and none in a leaf.
 fn nodes_under(pool: &[u8], st: Settings, height: usize, s: usize, j: usize) -> usize
-    requires { ⌜ Standing st (words (now pool)) height s ⌝ }
-    requires { ⌜ j < length (rowsAt st (words (now pool)) s) ⌝ }
-    ensures { λ r. ⌜ r ≡ nodesIn height (itemAt (nodes st (words (now (pool .entry)))) height (getD (rowsAt st (words (now (pool .entry))) s) j blank)) ⌝ }
+    requires stands { ⌜ Standing st (words (now pool)) height s ⌝ }
+    requires within { ⌜ j < length (rowsAt st (words (now pool)) s) ⌝ }
+    ensures { λ r.
+        ⌜ r ≡ nodesIn height (itemAt (nodes st (words (now (pool .entry)))) height
+        (getD (rowsAt st (words (now (pool .entry))) s) j blank)) ⌝ }
 {
     if height == 0 {
         return 0;

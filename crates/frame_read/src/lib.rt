@@ -62,8 +62,8 @@ fn refusal(n: u32) -> Reading
 
 // Reads the entries behind a header.
 fn read_entries(line: &[u8], kind: Kind) -> Reading
-    requires { ⌜ isHex (now line) ≡ true ⌝ }
-    requires { ⌜ 2 ≤ length (now line) ⌝ }
+    requires digits { ⌜ isHex (now line) ≡ true ⌝ }
+    requires some { ⌜ 2 ≤ length (now line) ⌝ }
     ensures { λ r. ⌜ Reads (restOf kind (drop 1 (pairs (now (line .entry))))) r ⌝ }
 {
     let rest = line.len() / 2 - 1;
@@ -87,9 +87,9 @@ fn read_entries(line: &[u8], kind: Kind) -> Reading
 
 // The first `n` entries of a line.
 fn entries_in(line: &[u8], kind: Kind, n: usize) -> Contents
-    requires { ⌜ isHex (now line) ≡ true ⌝ }
-    requires { ⌜ n ≤ 32 ⌝ }
-    requires { ⌜ 2 * startOf kind n ≤ length (now line) ⌝ }
+    requires digits { ⌜ isHex (now line) ≡ true ⌝ }
+    requires few { ⌜ n ≤ 32 ⌝ }
+    requires within { ⌜ 2 * startOf kind n ≤ length (now line) ⌝ }
     ensures { λ r. ⌜ r ≡ held kind (entriesIn kind n (drop 1 (pairs (now (line .entry))))) ⌝ }
 {
     let mut entries = [no_entry(); 32];
@@ -107,9 +107,9 @@ fn entries_in(line: &[u8], kind: Kind, n: usize) -> Contents
 
 // Entry `i` of a line.
 fn entry_at(line: &[u8], kind: Kind, i: usize) -> FrameEntry
-    requires { ⌜ isHex (now line) ≡ true ⌝ }
-    requires { ⌜ i < 32 ⌝ }
-    requires { ⌜ 2 * startOf kind (i + 1) ≤ length (now line) ⌝ }
+    requires digits { ⌜ isHex (now line) ≡ true ⌝ }
+    requires few { ⌜ i < 32 ⌝ }
+    requires within { ⌜ 2 * startOf kind (i + 1) ≤ length (now line) ⌝ }
     ensures { λ r. ⌜ r ≡ entryIn kind (drop (startOf kind i) (pairs (now (line .entry)))) ⌝ }
 {
     let a = start_of(kind, i);
@@ -120,8 +120,8 @@ fn entry_at(line: &[u8], kind: Kind, i: usize) -> FrameEntry
 }
 
 fn leaf_entry_at(line: &[u8], a: usize) -> FrameEntry
-    requires { ⌜ isHex (now line) ≡ true ⌝ }
-    requires { ⌜ 2 * (a + 20) ≤ length (now line) ⌝ }
+    requires digits { ⌜ isHex (now line) ≡ true ⌝ }
+    requires within { ⌜ 2 * (a + 20) ≤ length (now line) ⌝ }
     ensures { λ r. ⌜ r ≡ entryIn Leaf (drop a (pairs (now (line .entry)))) ⌝ }
 {
     let key = number(line, a, 8);
@@ -131,8 +131,8 @@ fn leaf_entry_at(line: &[u8], a: usize) -> FrameEntry
 }
 
 fn branch_at(line: &[u8], a: usize) -> FrameEntry
-    requires { ⌜ isHex (now line) ≡ true ⌝ }
-    requires { ⌜ 2 * (a + 28) ≤ length (now line) ⌝ }
+    requires digits { ⌜ isHex (now line) ≡ true ⌝ }
+    requires within { ⌜ 2 * (a + 28) ≤ length (now line) ⌝ }
     ensures { λ r. ⌜ r ≡ entryIn Interior (drop a (pairs (now (line .entry)))) ⌝ }
 {
     let key = number(line, a, 8);

@@ -55,9 +55,9 @@ pub fn is_hex(line: &[u8]) -> bool
 
 // The number that `w` bytes from `a` on spell.
 pub fn number(line: &[u8], a: usize, w: usize) -> u64
-    requires { ⌜ isHex (now line) ≡ true ⌝ }
-    requires { ⌜ 2 * (a + w) ≤ length (now line) ⌝ }
-    requires { ⌜ w ≤ 8 ⌝ }
+    requires digits { ⌜ isHex (now line) ≡ true ⌝ }
+    requires within { ⌜ 2 * (a + w) ≤ length (now line) ⌝ }
+    requires narrow { ⌜ w ≤ 8 ⌝ }
     ensures { λ r. ⌜ (r ≡ field a w (pairs (now (line .entry)))) × (r < 256 ^ w) ⌝ }
 {
     let mut n = 0;

@@ -52,8 +52,8 @@ pub fn put_frame(contents: Contents, line: &mut [u8]) -> WriteAnswer
 
 // Writes entry `i`.
 fn put_entry(line: &mut [u8], kind: Kind, i: usize, e: FrameEntry)
-    requires { ⌜ i < 32 ⌝ }
-    requires { ⌜ 2 * startOf kind (i + 1) ≤ length (now line) ⌝ }
+    requires few { ⌜ i < 32 ⌝ }
+    requires within { ⌜ 2 * startOf kind (i + 1) ≤ length (now line) ⌝ }
     ensures { λ _. ⌜ now (line .exit) ≡ spelled (now (line .entry)) (startOf kind i) (widthOf kind) (codeOf kind e) ⌝ }
 {
     let a = start_of(kind, i);

@@ -34,7 +34,8 @@ pub fn batch(
     sizes: &[u32],
     op: Operation,
 ) -> BatchAnswer
-    ensures { λ r. ⌜ Batches (call op (now (places .entry)) (now (sizes .entry)) (now (keys .entry))) (now (pool .entry)) r (now (pool .exit)) ⌝ }
+    ensures { λ r.
+        ⌜ Batches (call op (now (places .entry)) (now (sizes .entry)) (now (keys .entry))) (now (pool .entry)) r (now (pool .exit)) ⌝ }
 {
     let found = survey::survey(pool);
     if !found.sound {

@@ -70,7 +70,9 @@ pub extern "C" fn alarm_set(
     size: u32,
     counts: &mut [u64; 4],
 ) -> u32
-    ensures { λ r. ⌜ BatchCall (callFor (Set (referenceFor place size)) (now (keys .entry))) (now (pool .entry)) (now (counts .entry)) r (now (pool .exit)) (now (counts .exit)) ⌝ }
+    ensures { λ r.
+        ⌜ BatchCall (callFor (Set (referenceFor place size)) (now (keys .entry))) (now (pool .entry)) (now (counts .entry)) r
+        (now (pool .exit)) (now (counts .exit)) ⌝ }
 {
     batch(
         pool,
@@ -89,7 +91,9 @@ pub extern "C" fn alarm_set_each(
     sizes: &[u32],
     counts: &mut [u64; 4],
 ) -> u32
-    ensures { λ r. ⌜ BatchCall (callEach (now (keys .entry)) (now (places .entry)) (now (sizes .entry))) (now (pool .entry)) (now (counts .entry)) r (now (pool .exit)) (now (counts .exit)) ⌝ }
+    ensures { λ r.
+        ⌜ BatchCall (callEach (now (keys .entry)) (now (places .entry)) (now (sizes .entry))) (now (pool .entry)) (now (counts .entry)) r
+        (now (pool .exit)) (now (counts .exit)) ⌝ }
 {
     let answer = index::batch(pool, keys, places, sizes, Operation::SetEach);
     tell_counts(answer, counts)
@@ -98,7 +102,9 @@ pub extern "C" fn alarm_set_each(
 // Removes every key.
 #[no_mangle]
 pub extern "C" fn alarm_remove(pool: &mut [u8], keys: &[u64], counts: &mut [u64; 4]) -> u32
-    ensures { λ r. ⌜ BatchCall (callFor Remove (now (keys .entry))) (now (pool .entry)) (now (counts .entry)) r (now (pool .exit)) (now (counts .exit)) ⌝ }
+    ensures { λ r.
+        ⌜ BatchCall (callFor Remove (now (keys .entry))) (now (pool .entry)) (now (counts .entry)) r (now (pool .exit))
+        (now (counts .exit)) ⌝ }
 {
     batch(pool, keys, Operation::Remove, counts)
 }
@@ -117,7 +123,9 @@ pub extern "C" fn alarm_compare(
     size: u32,
     counts: &mut [u64; 4],
 ) -> u32
-    ensures { λ r. ⌜ BatchCall (callFor (Compare (expectationFor holds «expected_place» «expected_size») (actionFor set place size)) (now (keys .entry))) (now (pool .entry)) (now (counts .entry)) r (now (pool .exit)) (now (counts .exit)) ⌝ }
+    ensures { λ r.
+        ⌜ BatchCall (callFor (Compare (expectationFor holds «expected_place» «expected_size») (actionFor set place size))
+        (now (keys .entry))) (now (pool .entry)) (now (counts .entry)) r (now (pool .exit)) (now (counts .exit)) ⌝ }
 {
     let e = expectation(holds, expected_place, expected_size);
     let a = action(set, place, size);
@@ -126,7 +134,8 @@ pub extern "C" fn alarm_compare(
 
 // A batch that is lent no references.
 fn batch(pool: &mut [u8], keys: &[u64], op: Operation, counts: &mut [u64; 4]) -> u32
-    ensures { λ r. ⌜ BatchCall (callFor op (now (keys .entry))) (now (pool .entry)) (now (counts .entry)) r (now (pool .exit)) (now (counts .exit)) ⌝ }
+    ensures { λ r.
+        ⌜ BatchCall (callFor op (now (keys .entry))) (now (pool .entry)) (now (counts .entry)) r (now (pool .exit)) (now (counts .exit)) ⌝ }
 {
     let places = [0u64; 0];
     let sizes = [0u32; 0];
@@ -137,7 +146,8 @@ fn batch(pool: &mut [u8], keys: &[u64], op: Operation, counts: &mut [u64; 4]) ->
 // Lists one entry for each key that is present. Told: entries written, and 1 where more were due.
 #[no_mangle]
 pub extern "C" fn alarm_get(pool: &[u8], keys: &[u64], out: &mut [u8], told: &mut [u64; 2]) -> u32
-    ensures { λ r. ⌜ GetCall (now (pool .entry)) (now (keys .entry)) (now (out .entry)) (now (told .entry)) r (now (out .exit)) (now (told .exit)) ⌝ }
+    ensures { λ r.
+        ⌜ GetCall (now (pool .entry)) (now (keys .entry)) (now (out .entry)) (now (told .entry)) r (now (out .exit)) (now (told .exit)) ⌝ }
 {
     let answer = index::get(pool, keys, out);
     tell_get(answer, told)
@@ -158,7 +168,10 @@ pub extern "C" fn alarm_scan(
     out: &mut [u8],
     told: &mut [u64; 3],
 ) -> u32
-    ensures { λ r. ⌜ ScanCall (now (pool .entry)) (requestFor (boundFor «start_bounded» «start_included» start) (boundFor «end_bounded» «end_included» end) (directionFor down) (siftFor least)) (now (out .entry)) (now (told .entry)) r (now (out .exit)) (now (told .exit)) ⌝ }
+    ensures { λ r.
+        ⌜ ScanCall (now (pool .entry))
+        (requestFor (boundFor «start_bounded» «start_included» start) (boundFor «end_bounded» «end_included» end) (directionFor down)
+        (siftFor least)) (now (out .entry)) (now (told .entry)) r (now (out .exit)) (now (told .exit)) ⌝ }
 {
     let low = bound(start_bounded, start_included, start);
     let high = bound(end_bounded, end_included, end);
@@ -188,7 +201,24 @@ pub extern "C" fn alarm_read_frame(
     live: &mut [u32; 32],
     dead: &mut [u32; 32],
 ) -> u32
-    ensures { λ r. ⌜ ReadCall (readLine (now (line .entry))) (record { head = now (head .entry); keys = now (keys .entry); wide = now (wide .entry); narrow = now (narrow .entry); live = now (live .entry); dead = now (dead .entry) }) r (record { head = now (head .exit); keys = now (keys .exit); wide = now (wide .exit); narrow = now (narrow .exit); live = now (live .exit); dead = now (dead .exit) }) ⌝ }
+    ensures { λ r.
+        ⌜ ReadCall (readLine (now (line .entry))) (record {
+          head = now (head .entry);
+          keys = now (keys .entry);
+          wide = now (wide .entry);
+          narrow = now (narrow .entry);
+          live = now (live .entry);
+          dead = now (dead .entry);
+        }) r
+        (record {
+          head = now (head .exit);
+          keys = now (keys .exit);
+          wide = now (wide .exit);
+          narrow = now (narrow .exit);
+          live = now
+              (live .exit);
+          dead = now (dead .exit);
+        }) ⌝ }
 {
     let reading = index::read_frame(line);
     tell_reading(reading, head, keys, wide, narrow, live, dead)
@@ -204,7 +234,9 @@ pub extern "C" fn alarm_write_leaf(
     line: &mut [u8],
     len: &mut u64,
 ) -> u32
-    ensures { λ r. ⌜ WriteCall (frameOf (leafContents count (now (keys .entry)) (now (places .entry)) (now (sizes .entry)))) (now (line .entry)) (now (len .entry)) r (now (line .exit)) (now (len .exit)) ⌝ }
+    ensures { λ r.
+        ⌜ WriteCall (frameOf (leafContents count (now (keys .entry)) (now (places .entry)) (now (sizes .entry)))) (now (line .entry))
+        (now (len .entry)) r (now (line .exit)) (now (len .exit)) ⌝ }
 {
     let contents = leaf(count, keys, places, sizes);
     let answer = index::write_frame(contents, line);
@@ -223,7 +255,9 @@ pub extern "C" fn alarm_write_interior(
     line: &mut [u8],
     len: &mut u64,
 ) -> u32
-    ensures { λ r. ⌜ WriteCall (frameOf (interiorContents count (now (keys .entry)) (now (children .entry)) (now (live .entry)) (now (dead .entry)) (now (sums .entry)))) (now (line .entry)) (now (len .entry)) r (now (line .exit)) (now (len .exit)) ⌝ }
+    ensures { λ r.
+        ⌜ WriteCall (frameOf (interiorContents count (now (keys .entry)) (now (children .entry)) (now (live .entry)) (now (dead .entry))
+        (now (sums .entry)))) (now (line .entry)) (now (len .entry)) r (now (line .exit)) (now (len .exit)) ⌝ }
 {
     let contents = interior(count, keys, children, live, dead, sums);
     let answer = index::write_frame(contents, line);

@@ -18,7 +18,25 @@ pub fn tell_reading(
     live: &mut [u32; 32],
     dead: &mut [u32; 32],
 ) -> u32
-    ensures { λ r. ⌜ Reports fieldsOf (contentsTold (reading .answer) (reading .contents)) (record { head = now (head .entry); keys = now (keys .entry); wide = now (wide .entry); narrow = now (narrow .entry); live = now (live .entry); dead = now (dead .entry) }) r (record { head = now (head .exit); keys = now (keys .exit); wide = now (wide .exit); narrow = now (narrow .exit); live = now (live .exit); dead = now (dead .exit) }) ⌝ }
+    ensures { λ r.
+        ⌜ Reports fieldsOf (contentsTold (reading .answer) (reading .contents))
+        (record {
+          head = now (head .entry);
+          keys = now (keys .entry);
+          wide = now (wide .entry);
+          narrow = now (narrow .entry);
+          live = now
+              (live .entry);
+          dead = now (dead .entry);
+        }) r (record {
+          head = now (head .exit);
+          keys = now (keys .exit);
+          wide = now (wide .exit);
+          narrow = now (narrow .exit);
+          live = now
+              (live .exit);
+          dead = now (dead .exit);
+        }) ⌝ }
 {
     let answer = reading.answer;
     match answer {
@@ -40,7 +58,16 @@ fn put_contents(
     live: &mut [u32; 32],
     dead: &mut [u32; 32],
 )
-    ensures { λ _. ⌜ (record { head = now (head .exit); keys = now (keys .exit); wide = now (wide .exit); narrow = now (narrow .exit); live = now (live .exit); dead = now (dead .exit) }) ≡ fieldsOf contents ⌝ }
+    ensures { λ _.
+        ⌜ (record {
+          head = now (head .exit);
+          keys = now (keys .exit);
+          wide = now (wide .exit);
+          narrow = now (narrow .exit);
+          live = now
+              (live .exit);
+          dead = now (dead .exit);
+        }) ≡ fieldsOf contents ⌝ }
 {
     let kind = contents.kind;
     let entries = contents.entries;

@@ -87,7 +87,9 @@ pub fn interior(
     dead: &[u32; 32],
     sums: &[u64; 32],
 ) -> Contents
-    ensures { λ r. ⌜ r ≡ interiorContents count (now (keys .entry)) (now (children .entry)) (now (live .entry)) (now (dead .entry)) (now (sums .entry)) ⌝ }
+    ensures { λ r.
+        ⌜ r ≡ interiorContents count (now (keys .entry)) (now (children .entry)) (now (live .entry)) (now (dead .entry))
+        (now (sums .entry)) ⌝ }
 {
     let mut entries = [branch(0, 0, 0, 0, 0); 32];
     let mut i = 0;

@@ -34,8 +34,10 @@ pub fn store(
     op: Operation,
 ) -> Stored
     requires { ⌜ Knows (now pool) known ⌝ }
-    ensures { λ r. ⌜ Batches (call op (now (places .entry)) (now (sizes .entry)) (now (keys .entry))) (now (pool .entry)) (r .answer) (now (pool .exit)) ⌝ }
-    ensures { λ r. ⌜ Knows (now (pool .exit)) (r .known) ⌝ }
+    ensures promise { λ r.
+        ⌜ Batches (call op (now (places .entry)) (now (sizes .entry)) (now (keys .entry))) (now (pool .entry)) (r .answer)
+        (now (pool .exit)) ⌝ }
+    ensures again { λ r. ⌜ Knows (now (pool .exit)) (r .known) ⌝ }
 {
     let st = known.settings;
     let spare = known.spare;

@@ -7,7 +7,9 @@ use model::Settings;
 
 // The first of 3, 4 and 5 that applies; 0 where none does.
 pub fn call_refusal(st: Settings, keys: &[u64], places: &[u64], sizes: &[u32], op: Operation) -> u32
-    ensures { λ r. ⌜ r ≡ callRefusal st (record { operation = op; places = now (places .entry); sizes = now (sizes .entry); keys = now (keys .entry) }) 0 ⌝ }
+    ensures { λ r.
+        ⌜ r ≡ callRefusal st (record { operation = op; places = now (places .entry); sizes = now (sizes .entry); keys = now (keys .entry) })
+        0 ⌝ }
 {
     let n = keys.len();
     if st.order < n {

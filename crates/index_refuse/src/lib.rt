@@ -25,7 +25,9 @@ pub fn batch_refusal(
     op: Operation,
 ) -> u32
     requires { ⌜ st .order ≤ 32 ⌝ }
-    ensures { λ r. ⌜ Refuses st height unused (record { operation = op; places = now (places .entry); sizes = now (sizes .entry); keys = now (keys .entry) }) r ⌝ }
+    ensures { λ r.
+        ⌜ Refuses st height unused
+        (record { operation = op; places = now (places .entry); sizes = now (sizes .entry); keys = now (keys .entry) }) r ⌝ }
 {
     let n = call_refusal(st, keys, places, sizes, op);
     if n != 0 {

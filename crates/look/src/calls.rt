@@ -29,7 +29,9 @@ pub fn totals(pool: &[u8], st: Settings, height: usize) -> Totals
 // Lists one entry for each key that is present (the Rust's `get`).
 pub fn get(pool: &[u8], st: Settings, height: usize, keys: &[u64], out: &mut [u8]) -> Listed
     requires { ⌜ InPool (now pool) st height ⌝ }
-    ensures { λ r. ⌜ Writes (getAll (now (keys .entry)) (roomIn (now (out .entry))) (indexOf (now (pool .entry)))) (now (out .entry)) (r .written) (r .more) (now (out .exit)) ⌝ }
+    ensures { λ r.
+        ⌜ Writes (getAll (now (keys .entry)) (roomIn (now (out .entry))) (indexOf (now (pool .entry)))) (now (out .entry)) (r .written)
+        (r .more) (now (out .exit)) ⌝ }
 {
     let room = out.len() / 24;
     get_keys(pool, st, height, keys, out, room)
@@ -47,8 +49,11 @@ pub fn scan(
     out: &mut [u8],
 ) -> Scanned
     requires { ⌜ InPool (now pool) st height ⌝ }
-    ensures { λ r. ⌜ Writes (look.scan (requestFor start end direction sift) (roomIn (now (out .entry))) (indexOf (now (pool .entry))) .listed) (now (out .entry)) (r .written) (r .more) (now (out .exit)) ⌝ }
-    ensures { λ r. ⌜ r .opened ≡ look.scan (requestFor start end direction sift) (roomIn (now (out .entry))) (indexOf (now (pool .entry))) .opened ⌝ }
+    ensures written { λ r.
+        ⌜ Writes (look.scan (requestFor start end direction sift) (roomIn (now (out .entry))) (indexOf (now (pool .entry))) .listed)
+        (now (out .entry)) (r .written) (r .more) (now (out .exit)) ⌝ }
+    ensures opened { λ r.
+        ⌜ r .opened ≡ look.scan (requestFor start end direction sift) (roomIn (now (out .entry))) (indexOf (now (pool .entry))) .opened ⌝ }
 {
     let q = Request {
         start,

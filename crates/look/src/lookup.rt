@@ -28,9 +28,12 @@ pub fn get_keys(
     out: &mut [u8],
     room: usize,
 ) -> Listed
-    requires { ⌜ Grown st (words (now pool)) height (st .root) ⌝ }
-    requires { ⌜ 24 * room ≤ length (now out) ⌝ }
-    ensures { λ r. ⌜ page (now (out .exit)) r ≡ enlistAll room (found (now (keys .entry)) (entries (suc height) (treeAt (nodes st (words (now (pool .entry)))) height (st .root)))) (freshPage (now (out .entry))) ⌝ }
+    requires grown { ⌜ Grown st (words (now pool)) height (st .root) ⌝ }
+    requires space { ⌜ 24 * room ≤ length (now out) ⌝ }
+    ensures { λ r.
+        ⌜ page (now (out .exit)) r ≡ enlistAll room
+        (found (now (keys .entry)) (entries (suc height) (treeAt (nodes st (words (now (pool .entry)))) height (st .root))))
+        (freshPage (now (out .entry))) ⌝ }
 {
     let mut l = Listed {
         written: 0,
@@ -55,10 +58,13 @@ fn get_key(
     room: usize,
     l: Listed,
 ) -> Listed
-    requires { ⌜ Grown st (words (now pool)) height (st .root) ⌝ }
-    requires { ⌜ 24 * room ≤ length (now out) ⌝ }
-    requires { ⌜ l .more ≡ false ⌝ }
-    ensures { λ r. ⌜ page (now (out .exit)) r ≡ enlistAll room (present key (held key (entries (suc height) (treeAt (nodes st (words (now (pool .entry)))) height (st .root))))) (page (now (out .entry)) l) ⌝ }
+    requires grown { ⌜ Grown st (words (now pool)) height (st .root) ⌝ }
+    requires space { ⌜ 24 * room ≤ length (now out) ⌝ }
+    requires unfilled { ⌜ l .more ≡ false ⌝ }
+    ensures { λ r.
+        ⌜ page (now (out .exit)) r ≡ enlistAll room
+        (present key (held key (entries (suc height) (treeAt (nodes st (words (now (pool .entry)))) height (st .root)))))
+        (page (now (out .entry)) l) ⌝ }
 {
     let leaf = leaf_for(pool, st, height, key);
     let sought = slots_find::search(pool, st, leaf, key);

@@ -24,8 +24,8 @@ pub struct Scanned {
 
 // Lists the entry of a leaf's row, if there is room for it.
 pub fn list_row(out: &mut [u8], room: usize, l: Listed, row: Row) -> Listed
-    requires { ⌜ 24 * room ≤ length (now out) ⌝ }
-    requires { ⌜ l .more ≡ false ⌝ }
+    requires space { ⌜ 24 * room ≤ length (now out) ⌝ }
+    requires unfilled { ⌜ l .more ≡ false ⌝ }
     ensures { λ r. ⌜ page (now (out .exit)) r ≡ enlist room (entryOf row) (page (now (out .entry)) l) ⌝ }
 {
     let written = l.written;

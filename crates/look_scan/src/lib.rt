@@ -36,7 +36,9 @@ pub fn scan_node(
     w: Scanned,
 ) -> Scanned
     requires { ⌜ ToScan st (words (now pool)) height s q (now out) room w ⌝ }
-    ensures { λ r. ⌜ walkAt (now (out .exit)) r ≡ visitAll room (openings q height (treeAt (nodes st (words (now (pool .entry)))) height s)) (walkAt (now (out .entry)) w) ⌝ }
+    ensures { λ r.
+        ⌜ walkAt (now (out .exit)) r ≡ visitAll room (openings q height (treeAt (nodes st (words (now (pool .entry)))) height s))
+        (walkAt (now (out .entry)) w) ⌝ }
 {
     if height == 0 {
         return scan_leaf(pool, st, s, q, out, room, w);
@@ -56,7 +58,9 @@ fn scan_children(
     w: Scanned,
 ) -> Scanned
     requires { ⌜ ToScan st (words (now pool)) (suc below) s q (now out) room w ⌝ }
-    ensures { λ r. ⌜ walkAt (now (out .exit)) r ≡ visitAll room (openings q (suc below) (treeAt (nodes st (words (now (pool .entry)))) (suc below) s)) (walkAt (now (out .entry)) w) ⌝ }
+    ensures { λ r.
+        ⌜ walkAt (now (out .exit)) r ≡ visitAll room (openings q (suc below) (treeAt (nodes st (words (now (pool .entry)))) (suc below) s))
+        (walkAt (now (out .entry)) w) ⌝ }
 {
     let n = slots::count(pool, st, s);
     let mut at = Scanned {
@@ -89,7 +93,9 @@ fn scan_child(
     w: Scanned,
 ) -> Scanned
     requires { ⌜ ToEnter st (words (now pool)) below row q (now out) room w ⌝ }
-    ensures { λ r. ⌜ walkAt (now (out .exit)) r ≡ visitAll room (openingsOf q below (treeAt (nodes st (words (now (pool .entry)))) below (childOf row) ∷ [])) (walkAt (now (out .entry)) w) ⌝ }
+    ensures { λ r.
+        ⌜ walkAt (now (out .exit)) r ≡ visitAll room
+        (openingsOf q below (treeAt (nodes st (words (now (pool .entry)))) below (childOf row) ∷ [])) (walkAt (now (out .entry)) w) ⌝ }
 {
     if !is_entered(q, row) {
         return w;
@@ -109,7 +115,9 @@ fn scan_leaf(
     w: Scanned,
 ) -> Scanned
     requires { ⌜ ToScan st (words (now pool)) 0 s q (now out) room w ⌝ }
-    ensures { λ r. ⌜ walkAt (now (out .exit)) r ≡ visitAll room (openings q 0 (treeAt (nodes st (words (now (pool .entry)))) 0 s)) (walkAt (now (out .entry)) w) ⌝ }
+    ensures { λ r.
+        ⌜ walkAt (now (out .exit)) r ≡ visitAll room (openings q 0 (treeAt (nodes st (words (now (pool .entry)))) 0 s))
+        (walkAt (now (out .entry)) w) ⌝ }
 {
     let n = slots::count(pool, st, s);
     let opened = w.opened + 1;
@@ -133,8 +141,8 @@ fn scan_leaf(
 
 // Lists the entry of a leaf's row, if it is due.
 fn list_due(q: Request, out: &mut [u8], room: usize, l: Listed, row: Row) -> Listed
-    requires { ⌜ 24 * room ≤ length (now out) ⌝ }
-    requires { ⌜ l .more ≡ false ⌝ }
+    requires space { ⌜ 24 * room ≤ length (now out) ⌝ }
+    requires unfilled { ⌜ l .more ≡ false ⌝ }
     ensures { λ r. ⌜ page (now (out .exit)) r ≡ enlistAll room (keep (due q) (entryOf row ∷ [])) (page (now (out .entry)) l) ⌝ }
 {
     if !is_due(q, row) {

@@ -61,7 +61,8 @@ pub fn set_kind(pool: &mut [u8], st: Settings, s: usize, k: u64)
 // Sets row `i` of node `s`.
 pub fn set_row(pool: &mut [u8], st: Settings, s: usize, i: usize, row: Row)
     requires { ⌜ Rows st (words (now pool)) s i 1 ⌝ }
-    ensures { λ _. let W = words (now (pool .entry)) in ⌜ Now st W (words (now (pool .exit))) (putRows (nodes st W) s (set (rowsAt st W s) i row)) ⌝ }
+    ensures { λ _. let W = words (now (pool .entry)) in
+        ⌜ Now st W (words (now (pool .exit))) (putRows (nodes st W) s (set (rowsAt st W s) i row)) ⌝ }
 {
     raw_put(pool, st, s, i, row);
 }
@@ -69,7 +70,8 @@ pub fn set_row(pool: &mut [u8], st: Settings, s: usize, i: usize, row: Row)
 // Puts `row` in at place `i` of node `s`.
 pub fn insert_row(pool: &mut [u8], st: Settings, s: usize, i: usize, row: Row)
     requires { ⌜ Room st (words (now pool)) s i 1 ⌝ }
-    ensures { λ _. let W = words (now (pool .entry)) in ⌜ Now st W (words (now (pool .exit))) (putRows (nodes st W) s (putIn (rowsAt st W s) i (row ∷ []))) ⌝ }
+    ensures { λ _. let W = words (now (pool .entry)) in
+        ⌜ Now st W (words (now (pool .exit))) (putRows (nodes st W) s (putIn (rowsAt st W s) i (row ∷ []))) ⌝ }
 {
     let n = count(pool, st, s);
     let k = kind(pool, st, s);
@@ -81,7 +83,8 @@ pub fn insert_row(pool: &mut [u8], st: Settings, s: usize, i: usize, row: Row)
 // Takes row `i` out of node `s`.
 pub fn remove_row(pool: &mut [u8], st: Settings, s: usize, i: usize)
     requires { ⌜ Rows st (words (now pool)) s i 1 ⌝ }
-    ensures { λ _. let W = words (now (pool .entry)) in ⌜ Now st W (words (now (pool .exit))) (putRows (nodes st W) s (without (rowsAt st W s) i 1)) ⌝ }
+    ensures { λ _. let W = words (now (pool .entry)) in
+        ⌜ Now st W (words (now (pool .exit))) (putRows (nodes st W) s (without (rowsAt st W s) i 1)) ⌝ }
 {
     remove_rows(pool, st, s, i, 1);
 }
@@ -89,7 +92,8 @@ pub fn remove_row(pool: &mut [u8], st: Settings, s: usize, i: usize)
 // Takes `a` rows out of node `s`, from row `i` on.
 pub fn remove_rows(pool: &mut [u8], st: Settings, s: usize, i: usize, a: usize)
     requires { ⌜ Rows st (words (now pool)) s i a ⌝ }
-    ensures { λ _. let W = words (now (pool .entry)) in ⌜ Now st W (words (now (pool .exit))) (putRows (nodes st W) s (without (rowsAt st W s) i a)) ⌝ }
+    ensures { λ _. let W = words (now (pool .entry)) in
+        ⌜ Now st W (words (now (pool .exit))) (putRows (nodes st W) s (without (rowsAt st W s) i a)) ⌝ }
 {
     let n = count(pool, st, s);
     let k = kind(pool, st, s);

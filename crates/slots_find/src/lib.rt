@@ -52,9 +52,9 @@ pub fn key_at(pool: &[u8], st: Settings, s: usize, i: usize) -> u64
 // The lowest unused slot, or the number of slots where there is none. No slot below `from` is unused, so
 // a caller that keeps such a slot is spared a search from slot 0 each time.
 pub fn lowest_unused(pool: &[u8], st: Settings, from: usize) -> usize
-    requires { ⌜ Held st (words (now pool)) ⌝ }
-    requires { ⌜ from ≤ st .nodes ⌝ }
-    requires { ⌜ Below (nodes st (words (now pool))) from ⌝ }
+    requires held { ⌜ Held st (words (now pool)) ⌝ }
+    requires within { ⌜ from ≤ st .nodes ⌝ }
+    requires below { ⌜ Below (nodes st (words (now pool))) from ⌝ }
     ensures { λ r. ⌜ Lowest (nodes st (words (now (pool .entry)))) r ⌝ }
 {
     let nodes = st.nodes;

@@ -67,7 +67,8 @@ pub fn insert_from(
     a: usize,
 )
     requires { ⌜ Pass st (words (now pool)) s from t i a ⌝ }
-    ensures { λ _. let W = words (now (pool .entry)) in ⌜ Now st W (words (now (pool .exit))) (putRows (nodes st W) t (putIn (rowsAt st W t) i (part (rowsAt st W s) from a))) ⌝ }
+    ensures { λ _. let W = words (now (pool .entry)) in
+        ⌜ Now st W (words (now (pool .exit))) (putRows (nodes st W) t (putIn (rowsAt st W t) i (part (rowsAt st W s) from a))) ⌝ }
 {
     let n = count(pool, st, t);
     let k = kind(pool, st, t);

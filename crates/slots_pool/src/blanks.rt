@@ -13,8 +13,8 @@ use slots_raw::base;
 
 // Whether the rows of slot `s` from row `n` on are all blank.
 pub fn tail_zero(pool: &[u8], st: Settings, s: usize, n: usize) -> bool
-    requires { ⌜ Shape st (words (now pool)) × (s < st .nodes) ⌝ }
-    requires { ⌜ n ≤ st .rows ⌝ }
+    requires there { ⌜ Shape st (words (now pool)) × (s < st .nodes) ⌝ }
+    requires few { ⌜ n ≤ st .rows ⌝ }
     ensures { λ r. ⌜ Tells r (drop n (rawAt st (words (now (pool .entry))) s .cells) ≡ replicate (st .rows - n) blank) ⌝ }
 {
     let b = base(pool, st, s);

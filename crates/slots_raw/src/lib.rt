@@ -69,7 +69,8 @@ pub fn raw_head(pool: &mut [u8], st: Settings, s: usize, kind: u64, count: usize
 // Sets row `i` of slot `s`.
 pub fn raw_put(pool: &mut [u8], st: Settings, s: usize, i: usize, row: Row)
     requires { ⌜ Cells st (words (now pool)) s i 1 ⌝ }
-    ensures { λ _. let W = words (now (pool .entry)) in ⌜ Wrote st W (words (now (pool .exit))) (putCells st W s (over (rawAt st W s .cells) i 1 (row ∷ []))) ⌝ }
+    ensures { λ _. let W = words (now (pool .entry)) in
+        ⌜ Wrote st W (words (now (pool .exit))) (putCells st W s (over (rawAt st W s .cells) i 1 (row ∷ []))) ⌝ }
 {
     let p = base(pool, st, s) + (HEAD + i * ROW);
     words::put(pool, p, row.key);
@@ -81,7 +82,8 @@ pub fn raw_put(pool: &mut [u8], st: Settings, s: usize, i: usize, row: Row)
 // and the runs may overlap.
 pub fn raw_move(pool: &mut [u8], st: Settings, s: usize, from: usize, t: usize, to: usize, n: usize)
     requires { ⌜ Cells st (words (now pool)) s from n × Cells st (words (now pool)) t to n ⌝ }
-    ensures { λ _. let W = words (now (pool .entry)) in ⌜ Wrote st W (words (now (pool .exit))) (putCells st W t (over (rawAt st W t .cells) to n (part (rawAt st W s .cells) from n))) ⌝ }
+    ensures { λ _. let W = words (now (pool .entry)) in
+        ⌜ Wrote st W (words (now (pool .exit))) (putCells st W t (over (rawAt st W t .cells) to n (part (rawAt st W s .cells) from n))) ⌝ }
 {
     let a = base(pool, st, s);
     let b = base(pool, st, t);
@@ -96,7 +98,8 @@ pub fn raw_move(pool: &mut [u8], st: Settings, s: usize, from: usize, t: usize, 
 // Makes `n` rows of slot `s`, from row `from` on, blank.
 pub fn raw_clear(pool: &mut [u8], st: Settings, s: usize, from: usize, n: usize)
     requires { ⌜ Cells st (words (now pool)) s from n ⌝ }
-    ensures { λ _. let W = words (now (pool .entry)) in ⌜ Wrote st W (words (now (pool .exit))) (putCells st W s (over (rawAt st W s .cells) from n (replicate n blank))) ⌝ }
+    ensures { λ _. let W = words (now (pool .entry)) in
+        ⌜ Wrote st W (words (now (pool .exit))) (putCells st W s (over (rawAt st W s .cells) from n (replicate n blank))) ⌝ }
 {
     let b = base(pool, st, s);
     words_runs::clear(pool, b + (HEAD + from * ROW), n * ROW);

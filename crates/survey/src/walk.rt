@@ -56,8 +56,8 @@ fn first_child(pool: &[u8], st: Settings, s: usize) -> usize
 
 // Whether the tree is that of a sound pool, where `used` nodes are in use.
 pub fn tree_right(pool: &[u8], st: Settings, height: usize, used: usize) -> bool
-    requires { ⌜ Shape st (words (now pool)) ⌝ }
-    requires { ⌜ Known st (words (now pool)) height used ⌝ }
+    requires shape { ⌜ Shape st (words (now pool)) ⌝ }
+    requires known { ⌜ Known st (words (now pool)) height used ⌝ }
     ensures { λ r. ⌜ Tells r (SoundTree st (words (now (pool .entry)))) ⌝ }
 {
     if 7 < height {
@@ -86,8 +86,8 @@ fn check_node(
     key: u64,
     left: usize,
 ) -> Part
-    requires { ⌜ Shape st (words (now pool)) ⌝ }
-    requires { ⌜ There st (words (now pool)) height s ⌝ }
+    requires shape { ⌜ Shape st (words (now pool)) ⌝ }
+    requires there { ⌜ There st (words (now pool)) height s ⌝ }
     ensures { λ r. ⌜ Checked st (words (now (pool .entry))) height s least (last some key) left r ⌝ }
 {
     if height == 0 {
@@ -107,9 +107,9 @@ fn check_interior(
     key: u64,
     left: usize,
 ) -> Part
-    requires { ⌜ Shape st (words (now pool)) ⌝ }
-    requires { ⌜ There st (words (now pool)) height s ⌝ }
-    requires { ⌜ 0 < height ⌝ }
+    requires shape { ⌜ Shape st (words (now pool)) ⌝ }
+    requires there { ⌜ There st (words (now pool)) height s ⌝ }
+    requires interior { ⌜ 0 < height ⌝ }
     ensures { λ r. ⌜ Checked st (words (now (pool .entry))) height s least (last some key) left r ⌝ }
 {
     if !interior_right(pool, st, height, s, least, left) {

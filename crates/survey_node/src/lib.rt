@@ -34,8 +34,8 @@ pub fn check_leaf(
     key: u64,
     left: usize,
 ) -> Part
-    requires { ⌜ Shape st (words (now pool)) ⌝ }
-    requires { ⌜ There st (words (now pool)) 0 s ⌝ }
+    requires shape { ⌜ Shape st (words (now pool)) ⌝ }
+    requires there { ⌜ There st (words (now pool)) 0 s ⌝ }
     ensures { λ r. ⌜ Checked st (words (now (pool .entry))) 0 s least (last some key) left r ⌝ }
 {
     if !head_right(pool, st, 0, s, least, left) {
@@ -69,9 +69,9 @@ pub fn interior_right(
     least: usize,
     left: usize,
 ) -> bool
-    requires { ⌜ Shape st (words (now pool)) ⌝ }
-    requires { ⌜ There st (words (now pool)) height s ⌝ }
-    requires { ⌜ 0 < height ⌝ }
+    requires shape { ⌜ Shape st (words (now pool)) ⌝ }
+    requires there { ⌜ There st (words (now pool)) height s ⌝ }
+    requires interior { ⌜ 0 < height ⌝ }
     ensures { λ r. ⌜ Tells r (Opened st (words (now (pool .entry))) height s least left) ⌝ }
 {
     if !head_right(pool, st, height, s, least, left) {
@@ -82,8 +82,8 @@ pub fn interior_right(
 
 // Whether each row of slot `s`, which are at most order, names a slot with a node of height `height`.
 fn children_there(pool: &[u8], st: Settings, height: usize, s: usize) -> bool
-    requires { ⌜ Shape st (words (now pool)) × (s < st .nodes) ⌝ }
-    requires { ⌜ length (rowsAt st (words (now pool)) s) ≤ st .order ⌝ }
+    requires there { ⌜ Shape st (words (now pool)) × (s < st .nodes) ⌝ }
+    requires few { ⌜ length (rowsAt st (words (now pool)) s) ≤ st .order ⌝ }
     ensures { λ r. ⌜ Tells r (EachThere st (words (now (pool .entry))) height (rowsAt st (words (now (pool .entry))) s)) ⌝ }
 {
     let n = slots_raw::raw_count(pool, st, s);
@@ -111,8 +111,8 @@ pub fn there(pool: &[u8], st: Settings, height: usize, s: usize) -> bool
 
 // Whether the node in slot `s` has `least` to order rows, and the walk may open it.
 fn head_right(pool: &[u8], st: Settings, height: usize, s: usize, least: usize, left: usize) -> bool
-    requires { ⌜ Shape st (words (now pool)) ⌝ }
-    requires { ⌜ There st (words (now pool)) height s ⌝ }
+    requires shape { ⌜ Shape st (words (now pool)) ⌝ }
+    requires there { ⌜ There st (words (now pool)) height s ⌝ }
     ensures { λ r. ⌜ Tells r (Head st (words (now (pool .entry))) height s least left) ⌝ }
 {
     if left == 0 {

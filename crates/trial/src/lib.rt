@@ -22,8 +22,8 @@ pub fn word(pool: &[u8], i: usize) -> u64
 
 // Sets the word `i` of a pool.
 pub fn put_word(pool: &mut [u8], i: usize, v: u64)
-    ensures { λ _. ⌜ words (now (pool .exit)) ≡ set (words (now (pool .entry))) i v ⌝ }
-    ensures { λ _. ⌜ Same (now (pool .entry)) (now (pool .exit)) ⌝ }
+    ensures words { λ _. ⌜ words (now (pool .exit)) ≡ set (words (now (pool .entry))) i v ⌝ }
+    ensures same { λ _. ⌜ Same (now (pool .entry)) (now (pool .exit)) ⌝ }
 {
     if i < pool.len() / 8 {
         words::put(pool, i, v);

@@ -30,8 +30,8 @@ pub fn get(pool: &[u8], i: usize) -> u64
 // Sets the word at `i` to `v`.
 pub fn put(pool: &mut [u8], i: usize, v: u64)
     requires { ⌜ i < length (words (now pool)) ⌝ }
-    ensures { λ _. ⌜ words (now (pool .exit)) ≡ set (words (now (pool .entry))) i v ⌝ }
-    ensures { λ _. ⌜ Same (now (pool .entry)) (now (pool .exit)) ⌝ }
+    ensures words { λ _. ⌜ words (now (pool .exit)) ≡ set (words (now (pool .entry))) i v ⌝ }
+    ensures same { λ _. ⌜ Same (now (pool .entry)) (now (pool .exit)) ⌝ }
 {
     let p = place(pool, i);
     let v1 = v / 256;
@@ -55,8 +55,8 @@ pub fn put(pool: &mut [u8], i: usize, v: u64)
 // indices of `get` and `put`, that they stand within the pool.
 fn place(pool: &[u8], i: usize) -> usize
     requires { ⌜ i < length (words (now pool)) ⌝ }
-    ensures { λ r. ⌜ r ≡ 8 * i ⌝ }
-    ensures { λ r. ⌜ r + 8 ≤ length (now (pool .entry)) ⌝ }
+    ensures is { λ r. ⌜ r ≡ 8 * i ⌝ }
+    ensures inside { λ r. ⌜ r + 8 ≤ length (now (pool .entry)) ⌝ }
 {
     8 * i
 }

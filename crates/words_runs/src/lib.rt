@@ -10,10 +10,10 @@ use words::put;
 // Copies the `n` words from `from` on to `to`. The two runs may overlap, so the way of the copy goes
 // by which is lower: no word is written before it is read.
 pub fn shift(pool: &mut [u8], from: usize, to: usize, n: usize)
-    requires { ⌜ from + n ≤ length (words (now pool)) ⌝ }
-    requires { ⌜ to + n ≤ length (words (now pool)) ⌝ }
-    ensures { λ _. ⌜ words (now (pool .exit)) ≡ moved (words (now (pool .entry))) from to n ⌝ }
-    ensures { λ _. ⌜ Same (now (pool .entry)) (now (pool .exit)) ⌝ }
+    requires source { ⌜ from + n ≤ length (words (now pool)) ⌝ }
+    requires target { ⌜ to + n ≤ length (words (now pool)) ⌝ }
+    ensures words { λ _. ⌜ words (now (pool .exit)) ≡ moved (words (now (pool .entry))) from to n ⌝ }
+    ensures same { λ _. ⌜ Same (now (pool .entry)) (now (pool .exit)) ⌝ }
 {
     if from < to {
         move_up(pool, from, to, n);
@@ -25,8 +25,8 @@ pub fn shift(pool: &mut [u8], from: usize, to: usize, n: usize)
 // Sets the `n` words from `from` on to 0.
 pub fn clear(pool: &mut [u8], from: usize, n: usize)
     requires { ⌜ from + n ≤ length (words (now pool)) ⌝ }
-    ensures { λ _. ⌜ words (now (pool .exit)) ≡ cleared (words (now (pool .entry))) from n ⌝ }
-    ensures { λ _. ⌜ Same (now (pool .entry)) (now (pool .exit)) ⌝ }
+    ensures words { λ _. ⌜ words (now (pool .exit)) ≡ cleared (words (now (pool .entry))) from n ⌝ }
+    ensures same { λ _. ⌜ Same (now (pool .entry)) (now (pool .exit)) ⌝ }
 {
     let mut k = 0;
     while k < n {
@@ -72,10 +72,10 @@ fn zeros(pool: &[u8], from: usize, n: usize) -> bool
 
 // Copies the `n` words from `from` on to `to`, which is above: from the last word down.
 fn move_up(pool: &mut [u8], from: usize, to: usize, n: usize)
-    requires { ⌜ from ≤ to ⌝ }
-    requires { ⌜ to + n ≤ length (words (now pool)) ⌝ }
-    ensures { λ _. ⌜ words (now (pool .exit)) ≡ moved (words (now (pool .entry))) from to n ⌝ }
-    ensures { λ _. ⌜ Same (now (pool .entry)) (now (pool .exit)) ⌝ }
+    requires up { ⌜ from ≤ to ⌝ }
+    requires target { ⌜ to + n ≤ length (words (now pool)) ⌝ }
+    ensures words { λ _. ⌜ words (now (pool .exit)) ≡ moved (words (now (pool .entry))) from to n ⌝ }
+    ensures same { λ _. ⌜ Same (now (pool .entry)) (now (pool .exit)) ⌝ }
 {
     let mut k = n;
     while 0 < k {
@@ -87,10 +87,10 @@ fn move_up(pool: &mut [u8], from: usize, to: usize, n: usize)
 
 // Copies the `n` words from `from` on to `to`, which is below: from the first word up.
 fn move_down(pool: &mut [u8], from: usize, to: usize, n: usize)
-    requires { ⌜ to ≤ from ⌝ }
-    requires { ⌜ from + n ≤ length (words (now pool)) ⌝ }
-    ensures { λ _. ⌜ words (now (pool .exit)) ≡ moved (words (now (pool .entry))) from to n ⌝ }
-    ensures { λ _. ⌜ Same (now (pool .entry)) (now (pool .exit)) ⌝ }
+    requires down { ⌜ to ≤ from ⌝ }
+    requires source { ⌜ from + n ≤ length (words (now pool)) ⌝ }
+    ensures words { λ _. ⌜ words (now (pool .exit)) ≡ moved (words (now (pool .entry))) from to n ⌝ }
+    ensures same { λ _. ⌜ Same (now (pool .entry)) (now (pool .exit)) ⌝ }
 {
     let mut k = 0;
     while k < n {
