@@ -41,9 +41,10 @@ use Rattle.batch_node.specs.Calls.{runOf, Asked, ToChange, Answers, Came
 use Rattle.tree_node.specs.Ask.{childFor, Chosen}
 use Rattle.tree_node.proofs.Seeks.{seek-child}
 use Rattle.batch_seek.specs.Seek.{roams}
-use Rattle.batch_seek.proofs.Seeks.{roams-yes, seek-turned}
+use Rattle.model.proofs.Changes.{seek-turned}
+use Rattle.batch_seek.proofs.Seeks.{roams-yes}
 use Rattle.batch_node.proofs.Leaves.{slot-in}
-use Rattle.batch_node.proofs.Walks.{Walking, asked, says, stocked-sides, room, loose, loose-small, loose-fit, turn, fewer, start, Stop, finish}
+use Rattle.batch_node.proofs.Walks.{Walking, asked, says, kept, stocked-sides, room, loose, loose-small, loose-fit, turn, fewer, start, Stop, finish}
 
 -- what holds of three things holds of equal ones
 cross : {A B D : Type 0} (P : A → B → D → Type 0) {a a′ : A} {b b′ : B} {d d′ : D} → a ≡ a′ → b ≡ b′ → d ≡ d′ → P a b d → P a′ b′ d′
@@ -356,6 +357,7 @@ module _ {st : Settings} {W₀ W : List ℕ} {h : ℕ} {node : Subtree} {b : Cal
                 );
                 old = z .child;
                 loose = loosely;
+                kept = λ e. kept lim (r .walking) (r .le) (ap isChange (sym (answers .result) ∙ e));
                 says = subst (λ (x : ChangeResult). Says st x (o .node)) (sym (answers .result)) (says lim (r .walking) (r .le));
                 stocked-before = stocked-sides lim (r .walking) (r .le) .0;
                 stocked-after = stocked-sides lim (r .walking) (r .le) .1;

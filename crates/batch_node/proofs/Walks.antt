@@ -24,11 +24,10 @@ use Rattle.model.proofs.Lists.{all-left, all-right, all-head}
 use Rattle.model.proofs.Plain.{list-long, list-all}
 use Rattle.model.proofs.Trees.{flat-three, flat-joined}
 use Rattle.model.proofs.Settles.{itemsOf, settles}
-use Rattle.model.proofs.Changes.{child-enough, Owes, Ranged, Passed, Sought, Turned, did-left, stocked-ready, ceiling-due, one-left, outcome, chosen-law, chosen-given, owing, turning, first-ranged, none-passed, change-law}
+use Rattle.model.proofs.Changes.{seek-turned, child-enough, Owes, Ranged, Passed, Sought, Turned, did-left, stocked-ready, ceiling-due, one-left, outcome, chosen-law, chosen-given, owing, turning, first-ranged, none-passed, change-law}
 use Rattle.tree.specs.Bridge.{Holds, unusedOf, Apart}
 use Rattle.batch_share.specs.Settle.{inner, Loose, Settled}
 use Rattle.batch_node.specs.Calls.{runOf, Asked, Answers}
-use Rattle.batch_seek.proofs.Seeks.{seek-turned}
 use Rattle.batch_node.proofs.Strolls.{Among, Strolling, apart-kept, child-holds, child-apart, loosened, strolled-on}
 
 -- THE LOOP INVARIANT of interior change: the model's walk from here is the model's walk from the start, and the nodes hold the place
@@ -143,6 +142,10 @@ module _ {st : Settings} {h s ceiling : ℕ} {ns₀ : List S.Node} {t₀ : Tree 
 
   pub says : Says st (out .result) (out .node)
   says = owes .says (λ _. found .stocked)
+
+  -- a child that did not change is the one that was
+  pub kept : isChange (out .result) ≡ false → out .node ≡ spot .child
+  kept = owes .kept
 
   pub stocked-sides : (All (Stocked st) (spot .before)) × (All (Stocked st) (spot .after))
   stocked-sides = (found .stocked-before, found .stocked-after)

@@ -1,8 +1,8 @@
--- The small steps of the walk: its test, the search of a child, the ceiling, and a node's result. Assumes nothing.
+-- The small steps of the walk: its test, the ceiling, and a node's result. Assumes nothing.
 use mathlib.Core.Path.{_≡_, refl}
 use mathlib.Core.Logic.{_≢_}
 use mathlib.Core.Bool.{Bool, true, false, _||_}
-use mathlib.Core.List.{List, [], _∷_, reverseAux}
+use mathlib.Core.List.{List}
 use Prim.Native.Nat.{ℕ, zero, suc, _≤_, _<_}
 use native.Mathlib.Omega.{arith}
 use native.Mathlib.Nat.{not-suc-le-zero}
@@ -11,8 +11,7 @@ use lib.ListN.{length, getD}
 use borrow.Author.Tests.{lt-ltb, le-ltb, le-leb, lt-leb}
 use Rattle.model.specs.declared.Settings.{Settings}
 use Rattle.model.specs.declared.ChangeResult.the-variants.{Changed, Absorb, Split}
-use Rattle.model.specs.Change.{resultOf, isChange, ceilingFor, Spot, seek}
-use Rattle.model.proofs.Lists.{by-test}
+use Rattle.model.specs.Change.{resultOf, isChange, ceilingFor}
 use Rattle.model.specs.declared.ChangeResult.{ChangeResult}
 use Rattle.batch_seek.specs.Seek.{roams}
 
@@ -63,13 +62,3 @@ roams-high ks next ceiling i n h g = rw (lt-ltb next (length ks) h, lt-leb (getD
 
 pub roams-none : (ks : List ℕ) (next ceiling i n : ℕ) → length ks ≤ next → false ≡ roams ks next ceiling i n
 roams-none ks next ceiling i n h = rw (le-ltb next (length ks) h)
-
--- THE SEARCH of a child moves the place only
-
-pub seek-turned : {Y : Type 0} (separator : Y → ℕ) (k : ℕ) (before : List Y) (c : Y) (cs : List Y)
-    → reverseAux (seek separator k before c cs .before) (seek separator k before c cs .child ∷ seek separator k before c cs .after)
-    ≡ reverseAux before (c ∷ cs)
-seek-turned separator k before c [] = refl
-seek-turned {Y} separator k before c (n ∷ cs) =
-    by-test (λ (z : Spot Y). reverseAux (z .before) (z .child ∷ z .after) ≡ reverseAux before (c ∷ n ∷ cs)) (ltb (separator c) k)
-    (λ q. seek-turned separator k (c ∷ before) n cs) (λ q. refl)

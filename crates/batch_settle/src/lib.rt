@@ -1,6 +1,11 @@
-// What becomes of a changed child: its parent's row is made new, and the child is shared out, joined or taken out.
+// What becomes of a child that was called: where it changed, its parent's row is made new, and the child is shared out, joined or taken out.
+ghost use lib.ListN.{getD};
 ghost use Rattle.words.specs.Words.{words};
+ghost use Rattle.slots_raw.specs.Slots.{blank};
+ghost use Rattle.slots.specs.Nodes.{Now, nodes, rowsAt};
+ghost use Rattle.tree.specs.Bridge.{childOf};
 ghost use Rattle.batch_share.specs.Settle.{Pending, Done};
+ghost use Rattle.batch_share.specs.Weigh.{Renews, renewed};
 use batch_join::absorb;
 use batch_join::take_out;
 use batch_share::Standing;
@@ -24,13 +29,33 @@ pub fn settle_child(
     requires { ⌜ Pending st (words (now pool)) below s i spare v ⌝ }
     ensures { λ r. ⌜ Done st (words (now (pool .entry))) (words (now (pool .exit))) below s i v r ⌝ }
 {
-    let c = child_at(pool, st, s, i);
-    renew(pool, st, below, s, i, c);
     match v {
         ChangeResult::Unchanged => Standing { at: i, spare },
-        ChangeResult::Remove => take_out(pool, st, below, s, i, spare),
-        ChangeResult::Absorb => absorb(pool, st, below, s, i, spare),
-        ChangeResult::Changed => Standing { at: i, spare },
-        ChangeResult::Split => share_out(pool, st, below, s, i, spare),
+        ChangeResult::Remove => {
+            renew_child(pool, st, below, s, i);
+            take_out(pool, st, below, s, i, spare)
+        }
+        ChangeResult::Absorb => {
+            renew_child(pool, st, below, s, i);
+            absorb(pool, st, below, s, i, spare)
+        }
+        ChangeResult::Changed => {
+            renew_child(pool, st, below, s, i);
+            Standing { at: i, spare }
+        }
+        ChangeResult::Split => {
+            renew_child(pool, st, below, s, i);
+            share_out(pool, st, below, s, i, spare)
+        }
     }
+}
+
+// Row `i` of node `s` becomes that of the child that it names, of height `below`.
+fn renew_child(pool: &mut [u8], st: Settings, below: usize, s: usize, i: usize)
+    requires { let W = words (now pool) in ⌜ Renews st W below s i (childOf (getD (rowsAt st W s) i blank)) ⌝ }
+    ensures { λ _. let W = words (now (pool .entry)) in
+        ⌜ Now st W (words (now (pool .exit))) (renewed (nodes st W) below s i (childOf (getD (rowsAt st W s) i blank))) ⌝ }
+{
+    let c = child_at(pool, st, s, i);
+    renew(pool, st, below, s, i, c);
 }

@@ -12,7 +12,7 @@ use Rattle.model.specs.Lists.{All}
 use Rattle.model.specs.Tree.{Tree, slots}
 use Rattle.model.specs.Share.{Place}
 use Rattle.model.specs.declared.ChangeResult.{ChangeResult}
-use Rattle.model.specs.declared.ChangeResult.the-variants.{Unchanged, Remove, Split, Absorb, Changed}
+use Rattle.model.specs.declared.ChangeResult.the-variants.{Unchanged}
 use Rattle.model.specs.Change.{settle}
 use Rattle.model.specs.Sound.{Stocked, Fits}
 use Rattle.model.specs.Contracts.{flat, joined, back, Says, takes}
@@ -55,6 +55,8 @@ pub record Pend (st : Settings) (W : List ℕ) (h s i : ℕ) (spare : Spare) (v 
   pub few : length (rowsAt st W s) + 1 ≤ 2 * st .order
   pub old : Tree h
   pub loose : Loose h s (nodes st W) before old new after
+  -- a child that did not change is the old one
+  pub kept : v ≡ Unchanged → new ≡ old
   pub says : Says st v new
   pub stocked-before : All (Stocked st) before
   pub stocked-after : All (Stocked st) after

@@ -10,7 +10,7 @@ use Rattle.slots.specs.Nodes.{Held, nodes, nth, rowsAt, put2, withRows}
 use Rattle.slots.specs.Nodes as S
 use Rattle.model.specs.declared.Settings.{Settings}
 use Rattle.model.specs.Lists.{All}
-use Rattle.model.specs.Tree.{Node, Item, Tree, lowest}
+use Rattle.model.specs.Tree.{Node, Item, Tree}
 use Rattle.model.specs.Share.{Two, Row, Place, full, stay, half}
 use Rattle.model.specs.Sound.{Stocked, Fits}
 use Rattle.model.specs.Contracts.{flat, joined}

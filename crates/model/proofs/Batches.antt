@@ -200,7 +200,7 @@ module _ (st : Settings) (lim : InLimits st) where
     unfolding after-call
     call-settled =
         root-settled st lim (called .result) (x .height) (x .root) (called .node) (called .run .unused) (call-owes .whole)
-        (rw (call-owes .did .list) (list-sorted (call-owes .did .taken) (f .sorted))) (f .ready) (call-owes .says) (call-owes .kept)
+        (rw (call-owes .did .list) (list-sorted (call-owes .did .taken) (f .sorted))) (f .ready) (call-owes .says) (λ q. ap len (call-owes .kept q))
 
     pub call-fewer : length (called .tasks) < suc (length ts)
     call-fewer = call-owes .moves (f .ready) (all-head low)

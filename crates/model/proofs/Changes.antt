@@ -6,7 +6,7 @@ use mathlib.Core.Bool.{Bool, false, _&&_, _||_, true≢false}
 use mathlib.Core.List.{List, [], _∷_, _++_, reverseAux, append-assoc}
 use Prim.Native.Nat.{ℕ, zero, suc, _+_, _*_, _≤_, _<_, min, max, suc-le-suc}
 use native.Mathlib.Omega.{arith}
-use native.Mathlib.Nat.{zero-add, le-refl, le-trans, lt-of-le-of-lt, mul-suc, mul-zero}
+use native.Mathlib.Nat.{le-refl, le-trans, lt-of-le-of-lt, mul-suc, mul-zero}
 use lib.Dec.{leb, ltb}
 use lib.ListN.{length, length-append, length-reverseAux}
 use borrow.Author.Tests.{le-leb, le-ltb, ltb-true, ltb-false, leb-true, leb-false}
@@ -18,7 +18,7 @@ use Rattle.model.specs.Tree.{Node, Item, Tree, len, refill, slots, great
 use Rattle.model.specs.Plain.{Task, step, effectOn, count, alters, plainList, plainCounts}
 use Rattle.model.specs.Share.{Place}
 use Rattle.model.specs.declared.ChangeResult.{ChangeResult}
-use Rattle.model.specs.declared.ChangeResult.the-variants.{Remove, Split}
+use Rattle.model.specs.declared.ChangeResult.the-variants.{Split}
 use Rattle.model.specs.Change.{isChange, Run, Walked, Outcome, counted, takeTasks, changeLeaf, Spot, seek, ceilingFor, settle, walk, changeInterior, change}
 use Rattle.model.specs.Sound.{InLimits, Stocked, Whole, Sorted, Ascending}
 use Rattle.model.specs.Contracts.{flat, joined, back, OverFull, Says, takes, Rising, Removing, Due, Given, Ready, Enough}
@@ -66,6 +66,17 @@ did-left {P} {left = left} r h = all-right (r .taken) left (rw (r .split) at h)
 pub did-rising : {ceiling : ℕ} {ts left : List Task} {a b : List Entry} {c d : Counts} → Did ceiling ts left a b c d → Rising ts → Rising left
 did-rising {left = left} r h = ordered-right (r .taken) left (rw (r .split) at h)
 
+-- THE SEARCH
+
+-- the search of a child moves the place only
+pub seek-turned : {Y : Type 0} (separator : Y → ℕ) (k : ℕ) (before : List Y) (c : Y) (cs : List Y)
+    → reverseAux (seek separator k before c cs .before) (seek separator k before c cs .child ∷ seek separator k before c cs .after)
+    ≡ reverseAux before (c ∷ cs)
+seek-turned separator k before c [] = refl
+seek-turned {Y} separator k before c (n ∷ cs) =
+    by-test (λ (z : Spot Y). reverseAux (z .before) (z .child ∷ z .after) ≡ reverseAux before (c ∷ n ∷ cs)) (ltb (separator c) k)
+    (λ q. seek-turned separator k (c ∷ before) n cs) (λ q. refl)
+
 -- WHAT A CHANGED NODE OWES
 
 pub stocked-ready : (st : Settings) (h : ℕ) (n : Tree h) → Stocked st n → Ready st h n
@@ -82,7 +93,7 @@ pub record Owes (st : Settings) (h ceiling : ℕ) (n : Tree h) (ts : List Task) 
   pub did : Did ceiling ts (o .tasks) (flat h (n .items)) (flat h (o .node .items)) (run .counts) (o .run .counts)
   pub whole : All (Whole st h) (o .node .items)
   pub says : (isChange (o .result) ≡ false → Stocked st n) → Says st (o .result) (o .node)
-  pub kept : isChange (o .result) ≡ false → len (o .node) ≡ len n
+  pub kept : isChange (o .result) ≡ false → o .node ≡ n
   pub moves : Ready st h n → Due ceiling ts → length (o .tasks) < length ts
   -- the slots
   pub slot : o .node .slot ≡ n .slot
@@ -166,7 +177,7 @@ leaf-law st lim ceiling n ts run g =
       did = rw (flat-zero (n .items), flat-zero (w .items)) (k .did);
       whole = entries-whole st (w .items);
       says = λ same. result-says st (w .changed) (refill n (w .items)) (omega (arith, lim .wide)) (λ q. same-stocked st n (w .items) (k .idle q .1) (same (rw q refl)));
-      kept = λ q. ap length (k .idle (result-idle st (w .changed) (length (w .items)) q) .1);
+      kept = λ q. ap (refill n) (k .idle (result-idle st (w .changed) (length (w .items)) q) .1);
       moves = λ ready due. k .moves due (omega arith);
       slot = refl;
       slots = λ enough s. omega (arith, slots-leaf s (n .items), slots-leaf s (w .items), ap (times s) (k .unused));
@@ -282,7 +293,7 @@ module _ (st : Settings) (h : ℕ) where
     pub passed : All (λ u. Passed (u .key) (p .before)) left
     pub grown : many p ≤ suc (length before + length rest)
     pub standing : Standing (p .before) (p .rest)
-    pub idle : isChange result ≡ false → many p ≡ length before + length rest
+    pub idle : isChange result ≡ false → reverseAux (p .before) (p .rest) ≡ reverseAux before rest
     pub enough : Enough (suc h) ts (run .unused) → Enough (suc h) left (p .unused)
     pub slots : Enough (suc h) ts (run .unused) → (s : ℕ)
         → own s (p .before) + own s (p .rest) + times s (slotsIn h (itemsOf p)) + times s (p .unused)
@@ -411,8 +422,9 @@ module _ (st : Settings) (h : ℕ) where
           ap (λ (z : List (Item h)). times y (slotsIn h z)) (x .same),
         )
 
-    turned : Turned ceiling (t ∷ ts) (o .tasks) before rest run (o .result) spot (o .run .counts)
-    turned =
+    turned : reverseAux (s .before) (s .child ∷ s .after) ≡ reverseAux before rest
+        → Turned ceiling (t ∷ ts) (o .tasks) before rest run (o .result) spot (o .run .counts)
+    turned moved =
         record {
           ranged = turn-ranged;
           did = turn-did;
@@ -421,7 +433,9 @@ module _ (st : Settings) (h : ℕ) where
           passed = all-map (λ u g. rw (law .stepped) (all-drop (law .steps) (passed-more g (x .passed)))) (did-left (w .did) later);
           grown = omega (arith, law .few, takes-one (o .result), x .long);
           standing = law .standing;
-          idle = λ q. settle-idle st (o .result) (s .before) (o .node) (s .after) (o .run .unused) q ∙ x .long;
+          idle = λ q.
+              ap (λ (z : Place (Node (Item h))). reverseAux (z .before) (z .rest)) (settle-idle st (o .result) (s .before) (o .node) (s .after) (o .run .unused) q)
+              ∙ ap (λ (n : Node (Item h)). reverseAux (s .before) (n ∷ s .after)) (w .kept q) ∙ moved;
           enough = turn-enough;
           slots = turn-slots;
           spent = turn-spent;
@@ -439,7 +453,7 @@ module _ (st : Settings) (h : ℕ) where
     pub grown : length (w .items) + length (w .tasks) ≤ length before + length rest + length ts
     pub moves : 0 < turns → 0 < length rest → Due ceiling ts → length (w .tasks) < length ts
     pub over : length ts ≤ turns → Standing before rest → All (λ t. t .key ≤ ceiling) ts → (w .tasks ≡ []) ⊎ (length (w .items) ≡ 0)
-    pub idle : w .changed ≡ false → (ch ≡ false) × (length (w .items) ≡ length before + length rest)
+    pub idle : w .changed ≡ false → (ch ≡ false) × (w .items ≡ reverseAux before rest)
     pub slots : Enough (suc h) ts (run .unused) → (s : ℕ)
         → own s (w .items) + times s (slotsIn h (joined (w .items))) + times s (w .run .unused)
         ≡ own s before + own s rest + times s (slotsIn h (back before ++ joined rest)) + times s (run .unused)
@@ -461,7 +475,7 @@ module _ (st : Settings) (h : ℕ) where
         grown = omega (arith, length-reverseAux before rest);
         moves = λ a b c. absurd (no-move a b c);
         over = ended;
-        idle = λ q. (q, length-reverseAux before rest);
+        idle = λ q. (q, refl);
         slots = λ e s. omega (arith, own-turned s before rest, ap (λ (z : List (Item h)). times s (slotsIn h z)) (back-joined before rest));
         spent = omega arith;
         shrinks = λ rem. omega (arith, length-reverseAux before rest);
@@ -534,7 +548,9 @@ module _ (st : Settings) (h : ℕ) where
           (settle st (outcome ceiling before c cs t ts run .result) (chosen .before) (outcome ceiling before c cs t ts run .node) (chosen .after)
           (outcome ceiling before c cs t ts run .run .unused))
           (outcome ceiling before c cs t ts run .run .counts)
-      turning low = turned lim ceiling before (c ∷ cs) t ts run chosen (outcome ceiling before c cs t ts run) chosen-law r rising low owing
+      turning low =
+          turned lim ceiling before (c ∷ cs) t ts run chosen (outcome ceiling before c cs t ts run) chosen-law r rising low owing
+          (seek-turned (greatestKey (suc h)) (t .key) before c cs)
 
     pub strolled : (turns ceiling : ℕ) (before rest : List (Node (Item h))) (ch : Bool) (ts : List Task) (run : Run)
         → Ranged before rest → Rising ts → All (λ u. Passed (u .key) before) ts → length ts ≤ st .order
@@ -602,10 +618,10 @@ interior-law st lim h f law ceiling n ts run g =
       whole = joined-whole st h (w .items) (y .stocked) (y .whole);
       says = λ same. result-says st (w .changed) (refill n (w .items)) (omega (arith, y .grown, g .few, g .short))
           (λ q.
-          let long = y .idle q .1 in
+          let long = ap length (y .idle q .1) in
           let held : Stocked st n = same (rw q refl) in
           record { some = omega (arith, long); few = omega (arith, long) });
-      kept = λ q. y .idle (result-idle st (w .changed) (length (w .items)) q) .1 ∙ zero-add _;
+      kept = λ q. ap (refill n) (y .idle (result-idle st (w .changed) (length (w .items)) q) .1);
       moves = λ ready due. y .moves (due-some ceiling ts due) (ready .some) due;
       slot = refl;
       slots = λ e x. omega (arith, y .slots e x, slots-joined x h (n .items), slots-joined x h (w .items));

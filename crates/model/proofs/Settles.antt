@@ -381,7 +381,7 @@ module _ (st : Settings) {X : Type 0} where
 
   -- a result that is no change leaves the place as it was
   pub settle-idle : (r : ChangeResult) (before : List (Node X)) (c : Node X) (after : List (Node X)) (unused : List ℕ) → isChange r ≡ false
-      → many (settle st r before c after unused) ≡ length before + suc (length after)
+      → settle st r before c after unused ≡ record { before = before; rest = c ∷ after; unused = unused }
   settle-idle Unchanged before c after unused q = refl
   settle-idle Remove before c after unused q = absurd (true≢false q)
   settle-idle Split before c after unused q = absurd (true≢false q)
