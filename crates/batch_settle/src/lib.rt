@@ -1,4 +1,4 @@
-// What becomes of a child that was called: where it changed, its parent's row is made new, and the child is shared out, joined or taken out.
+// What becomes of a child that was called: where it changed, its row is made new, and it is shared out, joined or taken out.
 ghost use lib.ListN.{getD};
 ghost use Rattle.words.specs.Words.{words};
 ghost use Rattle.slots_raw.specs.Slots.{blank};

@@ -1,4 +1,4 @@
--- The laws, each file over those before it: `Weights` of the row of a node; `Zips`, `Places`, `Parents`, `Puts` of lists, readings and nodes written;
+-- The laws, each file over those before it: `Weights` of sums that fit a row; `Zips`, `Places`, `Parents`, `Puts` of lists, readings and nodes written;
 -- `Recast` THE ONE LAW of settling, and its instances `Turns` with `Cuts` (two neighbours cut otherwise) and `Halves`; then the steps put together:
 -- `Readings`, `Shares`.
 pub mod Weights

@@ -128,8 +128,9 @@ module _ (st : Settings) (W : List ℕ) (key : ℕ) where
   descend zero s i c p g q e = absurd (omega arith)
   descend (suc h) s i c p g q e =
       let down : h ≡ suc h - 1 = omega arith in
-      subst (λ (n : ℕ). Grown st W n c × (held key (entries (suc n) (treeAt (nodes st W) n c)) ≡ held key (entries (suc (suc h)) (treeAt (nodes st W) (suc h) s))))
-      down (lower h s g i c q e)
+      subst (λ (n : ℕ).
+      Grown st W n c × (held key (entries (suc n) (treeAt (nodes st W) n c)) ≡ held key (entries (suc (suc h)) (treeAt (nodes st W) (suc h) s)))) down
+      (lower h s g i c q e)
 
   pub arrive : (height h s : ℕ) → h ≤ 0 → Grown st W h s
       → held key (entries (suc h) (treeAt (nodes st W) h s)) ≡ held key (entries (suc height) (treeAt (nodes st W) height (st .root))) → Leads st W height key (st .root) s

@@ -57,15 +57,7 @@ pub fn join(pool: &mut [u8], st: Settings, low: usize, high: usize)
 }
 
 // Copies `a` rows of node `s`, from row `from` on, and puts them in at place `i` of node `t`.
-pub fn insert_from(
-    pool: &mut [u8],
-    st: Settings,
-    s: usize,
-    from: usize,
-    t: usize,
-    i: usize,
-    a: usize,
-)
+fn insert_from(pool: &mut [u8], st: Settings, s: usize, from: usize, t: usize, i: usize, a: usize)
     requires { ⌜ Pass st (words (now pool)) s from t i a ⌝ }
     ensures { λ _. let W = words (now (pool .entry)) in
         ⌜ Now st W (words (now (pool .exit))) (putRows (nodes st W) t (putIn (rowsAt st W t) i (part (rowsAt st W s) from a))) ⌝ }

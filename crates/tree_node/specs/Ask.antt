@@ -1,4 +1,5 @@
--- What a node of a tree answers from its rows: its greatest key, the row by which it stands in its parent, the child that a key goes to. Assumes nothing.
+-- What a node of a tree answers from its rows: its greatest key, the row by which it stands in its parent, the child that a key goes to.
+-- Assumes nothing.
 use Prim.Native.Nat.{ℕ, suc, _+_, _<_}
 use mathlib.Core.Path.{_≡_}
 use mathlib.Core.Bool.{cond}

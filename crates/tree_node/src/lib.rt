@@ -1,5 +1,5 @@
-// A node of a tree in the pool, asked: what its rows add up to, the row by which it stands in its parent, the child in a row, and the child that a key goes
-// to. Each question has this one home; the crates of reading and of a batch ask here.
+// A node of a tree in the pool, asked: what its rows add up to, the row by which it stands in its parent, the child in a row, and the child
+// that a key goes to. Each question has this one home; the crates of reading and of a batch ask here.
 ghost use mathlib.Core.Path.{_≡_};
 ghost use Prim.Native.Nat.{_<_};
 ghost use lib.ListN.{length, getD};

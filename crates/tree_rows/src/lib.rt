@@ -1,5 +1,5 @@
-// What the words of a row mean, and what a row adds to its node. A leaf's row is an entry: its key, its place and its size. An interior's row is
-// a child: its greatest key, its slot beside its live and dead entries, and its size sum.
+// What the words of a row mean, and what a row adds to its node. A leaf's row is an entry: its key, its place and its size. An interior's
+// row is a child: its greatest key, its slot beside its live and dead entries, and its size sum.
 //
 // The crates of the index ask here, so that none but this one takes a child's row apart or puts one together, and those that read take no
 // leaf's row apart either.

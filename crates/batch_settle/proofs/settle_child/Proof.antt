@@ -29,13 +29,15 @@ returns-2 : tie.Need-returns-2
 returns-2 c =
     let renewed = c .before .before .before .before .before .before in
     let told = renewed .before .before in
-    arm-ends (told .before .before .before .pre) _ (renewed .renew-child .ensures) Remove _ _ (told .enum-told2 .given .1) (c .before .before .take-out .ensures)
+    arm-ends (told .before .before .before .pre) _ (renewed .renew-child .ensures) Remove _ _ (told .enum-told2 .given .1)
+    (c .before .before .take-out .ensures)
 
 returns-3 : tie.Need-returns-3
 returns-3 c =
     let renewed = c .before .before .before .before .before .before in
     let told = renewed .before .before in
-    arm-ends (told .before .before .before .pre) _ (renewed .renew-child2 .ensures) Absorb _ _ (told .enum-told3 .given .1) (c .before .before .absorb .ensures)
+    arm-ends (told .before .before .before .pre) _ (renewed .renew-child2 .ensures) Absorb _ _ (told .enum-told3 .given .1)
+    (c .before .before .absorb .ensures)
 
 returns-4 : tie.Need-returns-4
 returns-4 c =
@@ -47,7 +49,8 @@ returns-5 : tie.Need-returns-5
 returns-5 c =
     let renewed = c .before .before .before .before .before .before in
     let told = renewed .before .before in
-    arm-ends (told .before .before .before .pre) _ (renewed .renew-child4 .ensures) Split _ _ (told .enum-told5 .given .1) (c .before .before .share-out .ensures)
+    arm-ends (told .before .before .before .pre) _ (renewed .renew-child4 .ensures) Split _ _ (told .enum-told5 .given .1)
+    (c .before .before .share-out .ensures)
 
 pub settle-child-spec : {M : Type 1} → statement M
 settle-child-spec =

@@ -22,7 +22,8 @@ split-requires c κs =
     let counted = kept .before in
     let new = counted .before .before in
     let moved = new .before .before .before .before in
-    to-split (moved .before .before .before .pre) (moved .move-root .ensures) (new .after-taking .ensures) (counted .count .ensures .is) (kept .half .ensures)
+    to-split (moved .before .before .before .pre) (moved .move-root .ensures) (new .after-taking .ensures)
+    (counted .count .ensures .is) (kept .half .ensures)
 
 crown-requires : tie.Need-crown-requires
 crown-requires c κs =
@@ -31,7 +32,8 @@ crown-requires c κs =
     let counted = kept .before in
     let new = counted .before .before in
     let moved = new .before .before .before .before in
-    to-crown (moved .before .before .before .pre) (moved .move-root .ensures) (new .after-taking .ensures) (counted .count .ensures .is) (kept .half .ensures)
+    to-crown (moved .before .before .before .pre) (moved .move-root .ensures) (new .after-taking .ensures)
+    (counted .count .ensures .is) (kept .half .ensures)
     (cut .split .ensures)
 
 after-taking-requires-2 : tie.Need-after-taking-requires-2
@@ -42,7 +44,8 @@ after-taking-requires-2 c κs =
     let counted = kept .before in
     let new = counted .before .before in
     let moved = new .before .before .before .before in
-    upper-taken (moved .before .before .before .pre) (moved .move-root .ensures) (new .after-taking .ensures) (counted .count .ensures .is) (kept .half .ensures)
+    upper-taken (moved .before .before .before .pre) (moved .move-root .ensures) (new .after-taking .ensures)
+    (counted .count .ensures .is) (kept .half .ensures)
     (cut .split .ensures) (crowned .crown .ensures)
 
 returns : tie.Need-returns
@@ -53,7 +56,8 @@ returns c =
     let counted = kept .before in
     let new = counted .before .before in
     let moved = new .before .before .before .before in
-    split-done (moved .before .before .before .pre) (moved .move-root .ensures) (new .after-taking .ensures) (counted .count .ensures .is) (kept .half .ensures)
+    split-done (moved .before .before .before .pre) (moved .move-root .ensures) (new .after-taking .ensures)
+    (counted .count .ensures .is) (kept .half .ensures)
     (cut .split .ensures) (crowned .crown .ensures) (c .after-taking2 .ensures)
 
 pub split-root-spec : {M : Type 1} → statement M

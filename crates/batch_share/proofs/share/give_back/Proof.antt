@@ -65,7 +65,8 @@ renew-two-requires c κs =
     let lower = upper .before .before in
     let t = lower .before .before .before .pre .0 in
     moved-renews t
-    (gave-back t _ _ _ (lower-named t (lower .child-at .ensures) .is) (upper-named t (upper .child-at2 .ensures) .is) _ (handed .handed .ensures) (moved .share-back .ensures))
+    (gave-back t _ _ _ (lower-named t (lower .child-at .ensures) .is) (upper-named t (upper .child-at2 .ensures) .is) _
+    (handed .handed .ensures) (moved .share-back .ensures))
 
 returns : tie.Need-returns
 returns c =
@@ -75,7 +76,8 @@ returns c =
     let lower = upper .before .before in
     let t = lower .before .before .before .pre .0 in
     moved-came t
-    (gave-back t _ _ _ (lower-named t (lower .child-at .ensures) .is) (upper-named t (upper .child-at2 .ensures) .is) _ (handed .handed .ensures) (moved .share-back .ensures)) _
+    (gave-back t _ _ _ (lower-named t (lower .child-at .ensures) .is) (upper-named t (upper .child-at2 .ensures) .is) _
+    (handed .handed .ensures) (moved .share-back .ensures)) _
     (c .before .before .renew-two .ensures)
 
 pub give-back-spec : {M : Type 1} → statement M
