@@ -67,7 +67,7 @@ lent-drop : {ks : List ℕ} → All (λ k. k < 2 ^ 64) ks → Lent (dropCall ks)
 lent-drop f = record { operation = tt; places = none; sizes = none; keys = f }
 
 module _ (x : Index) (s : Sound (handed desk) x) where
-  batch-sound : (c : Call) → Lent c → Sound (handed desk) (batchReply (λ y. y) x (answer desk c x) .after)
+  batch-sound : (c : Call) → Lent c → Sound (handed desk) (batchReply (λ y. y) x (answer (handed desk) c x) .after)
   batch-sound c lent = by (refusal (handed desk) c x) refl
     where
       by : (n : ℕ) → refusal (handed desk) c x ≡ n → Sound (handed desk) (batchReply (λ y. y) x (unless n (batch (handed desk) (tasksOf c) x)) .after)
