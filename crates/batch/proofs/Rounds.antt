@@ -31,11 +31,11 @@ use Rattle.tree.specs.Bridge.{treeAt, unusedOf, HoldsIndex}
 use Rattle.tree.proofs.Few.{entries-most}
 use Rattle.tree_spare.specs.Spared.{Spared}
 use Rattle.batch_node.specs.declared.Reply.{Reply}
-use Rattle.batch_node.specs.Calls.{runOf, Asked, ToChange, Answers, Came}
+use Rattle.batch_node.specs.Calls.{runOf, Asked, ToChange, Answers, NodeChanged}
 use Rattle.batch_root.specs.declared.Root.{Root}
-use Rattle.batch_root.specs.Roots.{indexAt, Keeps, Returned, RootSettled, SettledRoot, collapsed}
+use Rattle.batch_root.specs.Roots.{indexAt, ToCollapse, ToSettleRoot, RootSettled, SettledRoot, collapsed}
 use Rattle.batch_root.proofs.Indexes.{root-read, index-read}
-use Rattle.batch.specs.Batch.{Accepted, Changed}
+use Rattle.batch.specs.Batch.{ToBatch, Changed}
 use Rattle.batch.proofs.Rooms.{Going}
 use Rattle.batch.proofs.Rooms as R
 
@@ -72,7 +72,7 @@ once-most : (s m n : ℕ) → n ≡ cond (ltb s m) 1 0 → n ≤ 1
 once-most s m n = by-test (λ (v : ℕ). n ≡ v → n ≤ 1) (ltb s m) (λ q e. omega arith) (λ q e. omega arith)
 
 module _ {st : Settings} {W₀ : List ℕ} {root : Root} {b : M.Call} where
-  pub start : {c : Counts} → c ≡ noCounts → Accepted st W₀ root b
+  pub start : {c : Counts} → c ≡ noCounts → ToBatch st W₀ root b
       → Running st W₀ (root .height) b W₀ (root .height) (record { next = 0; counts = c; spare = root .spare })
   start ec a =
       let x : Index = indexAt (st .root) (nodes st W₀) (root .height) in
@@ -132,7 +132,7 @@ module _ {st : Settings} {W₀ : List ℕ} {h₀ : ℕ} {b : M.Call} {W : List �
   lim : InLimits st
   lim = m .held .shape .limits
 
-  pub keeps : Keeps st W x
+  pub keeps : ToCollapse st W x
   keeps =
       record {
         held = m .held;
@@ -185,7 +185,7 @@ module _ {st : Settings} {W₀ : List ℕ} {h₀ : ℕ} {b : M.Call} {W : List �
     y = R.after lim c g
 
     -- THE ROOT CALLED
-    module _ {W₁ : List ℕ} {r : Reply} (came : Came st W W₁ h called-node b run r) where
+    module _ {W₁ : List ℕ} {r : Reply} (came : NodeChanged st W W₁ h called-node b run r) where
       abbrev ms : List S.Node
       ms = nodes st W₁
 
@@ -208,10 +208,10 @@ module _ {st : Settings} {W₀ : List ℕ} {h₀ : ℕ} {b : M.Call} {W : List �
       root-is : treeAt ms h (st .root) ≡ o .node
       root-is = root-read (st .root) ms h (o .node) (R.node-root lim c g) light (answers .holds)
 
-      pub returned : Returned st W₁ (record { height = h; spare = r .run .spare }) (r .result)
+      pub returned : ToSettleRoot st W₁ (record { height = h; spare = r .run .spare }) (r .result)
       returned =
           record {
-            keeps = subst (Keeps st W₁) (sym (index-read (st .root) ms h x₁ refl (R.node-root lim c g) light called)) (record {
+            keeps = subst (ToCollapse st W₁) (sym (index-read (st .root) ms h x₁ refl (R.node-root lim c g) light called)) (record {
               held = came .held;
               holds = called;
               apart = R.node-apart lim c g;

@@ -5,7 +5,8 @@ use Prim.Native.Nat.{ℕ, _+_}
 use native.Mathlib.Omega.{arith}
 use lib.ListN.{set}
 use Rattle.slots_raw.specs.declared.Row.{Row}
-use Rattle.slots.specs.Nodes.{Now, nodes, nth, putKind}
+use Rattle.slots.specs.Nodes.{nodes, nth, putKind}
+use Rattle.slots.specs.Contracts.{Now}
 use Rattle.slots.specs.Nodes as S
 use Rattle.slots.proofs.Nodes.{nth-same}
 use Rattle.model.specs.declared.Settings.{Settings}
@@ -24,11 +25,11 @@ use Rattle.tree_spare.specs.declared.Spare.{Spare}
 use Rattle.tree_spare.proofs.Spares.{spared-same}
 use Rattle.batch_share.proofs.Puts.{blank-set}
 use Rattle.batch_root.specs.declared.Root.{Root}
-use Rattle.batch_root.specs.Roots.{indexAt, Returned, SettledRoot, Splits, Halved}
+use Rattle.batch_root.specs.Roots.{indexAt, ToSettleRoot, SettledRoot, ToSplitRoot, Halved}
 use Rattle.batch_root.proofs.Indexes.{now-holds}
 use Rattle.batch_root.proofs.Sets.{no-blank, unused-same}
 
-module _ {st : Settings} {W : List ℕ} {root : Root} {v : ChangeResult} (pre : Returned st W root v) where
+module _ {st : Settings} {W : List ℕ} {root : Root} {v : ChangeResult} (pre : ToSettleRoot st W root v) where
   abbrev h : ℕ
   h = root .height
 
@@ -39,7 +40,7 @@ module _ {st : Settings} {W : List ℕ} {root : Root} {v : ChangeResult} (pre : 
   t = treeAt (nodes st W) (root .height) (st .root)
 
   -- OVER-FULL: it is split
-  pub to-halve : v ≡ Split → Splits st W h (root .spare)
+  pub to-halve : v ≡ Split → ToSplitRoot st W h (root .spare)
   to-halve e = record { keeps = pre .keeps; spared = pre .spared; two = pre .two e }
 
   pub split-settled : {W′ : List ℕ} {r : Spare} → v ≡ Split → Halved st W W′ h r → SettledRoot st W W′ h v (record { height = h + 1; spare = r })

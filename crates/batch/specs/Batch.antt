@@ -16,7 +16,7 @@ use Rattle.batch_root.specs.Roots.{indexAt}
 use Rattle.batch.specs.declared.Ran.{Ran}
 
 -- a batch that is not refused, of a sound index
-pub record Accepted (st : Settings) (W : List ℕ) (root : Root) (c : Call) : Type 0 where
+pub record ToBatch (st : Settings) (W : List ℕ) (root : Root) (c : Call) : Type 0 where
   pub held : Held st W
   pub holds : HoldsIndex (nodes st W) (indexAt (st .root) (nodes st W) (root .height))
   pub sound : Sound st (indexAt (st .root) (nodes st W) (root .height))

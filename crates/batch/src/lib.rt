@@ -4,8 +4,8 @@
 // afterwards and the counts are those of the model's `batch`.
 ghost use Rattle.words.specs.Words.{words};
 ghost use Rattle.model.specs.Refuse.{call};
-ghost use Rattle.batch_root.specs.Roots.{Returned, SettledRoot};
-ghost use Rattle.batch.specs.Batch.{Accepted, Changed};
+ghost use Rattle.batch_root.specs.Roots.{ToSettleRoot, SettledRoot};
+ghost use Rattle.batch.specs.Batch.{ToBatch, Changed};
 use batch_leaf::Run;
 use batch_leaf::Subtree;
 use batch_node::node_change;
@@ -35,7 +35,7 @@ pub fn batch(
     sizes: &[u32],
     op: Operation,
 ) -> Ran
-    requires { ⌜ Accepted st (words (now pool)) root (call op (now places) (now sizes) (now keys)) ⌝ }
+    requires { ⌜ ToBatch st (words (now pool)) root (call op (now places) (now sizes) (now keys)) ⌝ }
     ensures { λ r. let b = call op (now (places .entry)) (now (sizes .entry)) (now (keys .entry)) in
         ⌜ Changed st (words (now (pool .entry))) (words (now (pool .exit))) (root .height) b r ⌝ }
 {
@@ -77,7 +77,7 @@ pub fn batch(
 // What becomes of the root after a call: an over-full one is split, an empty one is a leaf again, and one below the
 // minimum stays, since it has no sibling.
 fn settle_root(pool: &mut [u8], st: Settings, root: Root, v: ChangeResult) -> Root
-    requires { ⌜ Returned st (words (now pool)) root v ⌝ }
+    requires { ⌜ ToSettleRoot st (words (now pool)) root v ⌝ }
     ensures { λ r. ⌜ SettledRoot st (words (now (pool .entry))) (words (now (pool .exit))) (root .height) v r ⌝ }
 {
     match v {

@@ -6,7 +6,8 @@ use native.Mathlib.Omega.{arith}
 use lib.ListN.{length, set, length-map, length-set}
 use lib.Seq.{getD-set-other}
 use Rattle.slots_raw.specs.declared.Row as R
-use Rattle.slots.specs.Nodes.{nodes, nth, rowsAt, unused, putRows, without, put2, withRows, joinNodes, Give, Rows, Now}
+use Rattle.slots.specs.Nodes.{nodes, nth, rowsAt, unused, putRows, without, put2, withRows, joinNodes}
+use Rattle.slots.specs.Contracts.{ToGive, Rows, Now}
 use Rattle.slots.specs.Nodes as S
 use Rattle.tree_spare.specs.declared.Spare.{Spare}
 use Rattle.tree_spare.specs.Spared.{Spared, freeing}
@@ -26,7 +27,7 @@ use Rattle.tree.proofs.Cells.{kind-used}
 use Rattle.tree.proofs.Unused.{unused-released, unused-kept}
 use Rattle.batch_share.specs.Settle.{kidsAt, Settled}
 use Rattle.tree_node.specs.Ask.{rowOver}
-use Rattle.batch_share.specs.Weigh.{Renews, renewed}
+use Rattle.batch_share.specs.Weigh.{ToRenew, renewed}
 use Rattle.batch_share.specs.Steps.{Bounded, Beside, Came, Left}
 use Rattle.tree_node.proofs.Weights.{row-over}
 use Rattle.batch_share.proofs.Weights.{sums-fit, bounded-left, bounded-right}
@@ -49,7 +50,7 @@ module _ {st : Settings} {W : List ℕ} {h s i : ℕ} {b : List (Tree h)} {p c :
   inside : {z : ℕ} → z < st .nodes → z < length ns
   inside l = omega (arith, l, length-nodes st W)
 
-  pub can-join : len p + len c ≤ 2 * st .order → Give st W y x (length (rowsAt st W y))
+  pub can-join : len p + len c ≤ 2 * st .order → ToGive st W y x (length (rowsAt st W y))
   can-join few =
       rw (ex, ey) (record {
         held = t .family .held;
@@ -99,7 +100,7 @@ module _ {st : Settings} {W : List ℕ} {h s i : ℕ} {b : List (Tree h)} {p c :
       abbrev less : List R.Row
       less = without (rowsAt st W₁ s) (i + 1) 1
 
-      pub both-renews : Renews st W₂ h s i x
+      pub both-renews : ToRenew st W₂ h s i x
       both-renews =
           renews-after st W₁ W₂ h s i x less (parent-in (t .family)) (λ e. apart-lower t (sym ex ∙ e)) v
           (omega (arith, beside-long t, ap length parent-rows, length-without (rowsAt st W₁ s) (i + 1) 1 (omega (arith, beside-long t, ap length parent-rows))))

@@ -7,7 +7,8 @@ use lib.ListN.{length, set, length-set}
 use lib.Seq.{getD-set-other}
 use Rattle.model.specs.declared.ChangeResult.the-variants.{Remove}
 use Rattle.slots_raw.specs.declared.Row as R
-use Rattle.slots.specs.Nodes.{nodes, nth, rowsAt, unused, putRows, without, Rows, Now}
+use Rattle.slots.specs.Nodes.{nodes, nth, rowsAt, unused, putRows, without}
+use Rattle.slots.specs.Contracts.{Rows, Now}
 use Rattle.slots.specs.Nodes as S
 use Rattle.tree_spare.specs.declared.Spare.{Spare}
 use Rattle.tree_spare.specs.Spared.{Spared, freeing}

@@ -3,7 +3,8 @@ ghost use mathlib.Core.Path.{_≡_};
 ghost use mathlib.Core.List.{_∷_, _++_};
 ghost use Prim.Native.Nat.{_+_, _-_, _≤_};
 ghost use Rattle.words.specs.Words.{words};
-ghost use Rattle.slots.specs.Nodes.{Now, nodes};
+ghost use Rattle.slots.specs.Nodes.{nodes};
+ghost use Rattle.slots.specs.Contracts.{Now};
 ghost use Rattle.model.specs.Tree.{len, refill, release};
 ghost use Rattle.model.specs.Share.{halved, join, followed};
 ghost use Rattle.model.specs.declared.ChangeResult.the-variants.{Absorb, Remove};
@@ -11,7 +12,7 @@ ghost use Rattle.model.specs.Contracts.{Says};
 ghost use Rattle.tree.specs.Bridge.{unusedOf};
 ghost use Rattle.tree_spare.specs.Spared.{Spared};
 ghost use Rattle.batch_share.specs.Settle.{Done, childAt, afterAt};
-ghost use Rattle.batch_share.specs.Steps.{Poised, Neighbours, Parted, Rowed, Levels, levelNodes};
+ghost use Rattle.batch_share.specs.Steps.{ToStep, Neighbours, Parted, Rowed, ToLevel, levelNodes};
 use batch_share::Standing;
 use batch_share::weigh::child_len;
 use batch_share::weigh::renew;
@@ -32,7 +33,7 @@ pub fn absorb(
     i: usize,
     spare: Spare,
 ) -> Standing
-    requires steps { ⌜ Poised st (words (now pool)) below s i spare 0 ⌝ }
+    requires steps { ⌜ ToStep st (words (now pool)) below s i spare 0 ⌝ }
     requires says { ⌜ Says st Absorb (childAt (nodes st (words (now pool))) below s i) ⌝ }
     ensures { λ r. ⌜ Done st (words (now (pool .entry))) (words (now (pool .exit))) below s i Absorb r ⌝ }
 {
@@ -109,7 +110,7 @@ fn even_out(pool: &mut [u8], st: Settings, below: usize, s: usize, i: usize)
 
 // Rows go from the longer of the nodes `p` and `c` to the other, until the lower half of them is in `p`.
 fn level(pool: &mut [u8], st: Settings, p: usize, c: usize)
-    requires { ⌜ Levels st (words (now pool)) p c ⌝ }
+    requires { ⌜ ToLevel st (words (now pool)) p c ⌝ }
     ensures { λ _. let W = words (now (pool .entry)) in ⌜ Now st W (words (now (pool .exit))) (levelNodes (nodes st W) p c) ⌝ }
 {
     let m = slots::count(pool, st, p);
@@ -131,7 +132,7 @@ pub fn take_out(
     i: usize,
     spare: Spare,
 ) -> Standing
-    requires steps { ⌜ Poised st (words (now pool)) below s i spare 0 ⌝ }
+    requires steps { ⌜ ToStep st (words (now pool)) below s i spare 0 ⌝ }
     requires says { ⌜ Says st Remove (childAt (nodes st (words (now pool))) below s i) ⌝ }
     ensures { λ r. ⌜ Done st (words (now (pool .entry))) (words (now (pool .exit))) below s i Remove r ⌝ }
 {

@@ -14,7 +14,8 @@ use Rattle.slots_raw.specs.declared.Row.{Row}
 use Rattle.slots_find.specs.declared.Found.{Found}
 use Rattle.slots_find.specs.declared.Found.the-variants as F
 use Rattle.slots_raw.specs.Slots.{blank}
-use Rattle.slots.specs.Nodes.{Now, nodes, putRows, rowsAt}
+use Rattle.slots.specs.Nodes.{nodes, putRows, rowsAt}
+use Rattle.slots.specs.Contracts.{Now}
 use Rattle.slots_find.specs.Search.{keyAt, Ascending, pick, findRow, Sought, Within}
 use Rattle.slots_find.specs.Search as S
 use Rattle.slots_raw.proofs.Over.{map-append}
@@ -39,7 +40,7 @@ use Rattle.tree.proofs.Keys.{rows-ascend, entries-from}
 use Rattle.batch_effect.specs.declared.Presence.{Presence}
 use Rattle.batch_effect.specs.Under.{refOf, optionOf}
 use Rattle.batch_leaf.specs.Leaf.{Leaf}
-use Rattle.batch_leaf.specs.Keys.{presenceAt, placeOf, performed, Able, KeyDone}
+use Rattle.batch_leaf.specs.Keys.{presenceAt, placeOf, performed, ToPerform, KeyDone}
 
 -- ROWS AND ENTRIES
 
@@ -140,7 +141,7 @@ present (IfMet e a) r = by-test (λ (x : Effect). adds x ≡ false) (met e (some
 
 module _ (st : Settings) (W : List ℕ) (s k : ℕ) (w : Wish) (leaf : Leaf st W s) where
   able : (r : Found) (d : Effect) → View k (rowsAt st W s) r → placeOf r ≤ length (rowsAt st W s)
-      → d ≡ effect w (optionOf (presenceAt (rowsAt st W s) r)) → Able st W s (placeOf r) d
+      → d ≡ effect w (optionOf (presenceAt (rowsAt st W s) r)) → ToPerform st W s (placeOf r) d
   able r Leave v b e = record { held = leaf .held; slot = leaf .slot }
   able r (Add n) v b e =
       record { held = leaf .held; slot = leaf .slot; within = b; room = omega (arith, leaf .few, leaf .held .shape .limits .wide) }
@@ -200,9 +201,9 @@ module _ {st : Settings} {W : List ℕ} {s k : ℕ} (w : Wish) (leaf : Leaf st W
   decided : d ≡ effect w (optionOf (presenceAt l r))
   decided = ed ∙ ap (λ (x : Presence). effect w (optionOf x)) ep
 
-  pub key-able : Able st W s i d
+  pub key-able : ToPerform st W s i d
   key-able =
-      subst (λ (j : ℕ). Able st W s j d) (sym ei) (able st W s k w leaf r d (view k l r sought) (place-within l r (sought .within)) decided)
+      subst (λ (j : ℕ). ToPerform st W s j d) (sym ei) (able st W s k w leaf r d (view k l r sought) (place-within l r (sought .within)) decided)
 
   pub key-done : {W′ : List ℕ} → Now st W W′ (putRows (nodes st W) s (performed l i k d)) → KeyDone st W W′ s (record { key = k; wish = w }) d
   key-done {W′} n =

@@ -8,7 +8,8 @@ use native.Mathlib.Omega.{arith}
 use lib.Dec.{ltb, leb}
 use lib.ListN.{length, getD, drop, length-map}
 use borrow.Author.Tests.{ltb-true, ltb-false, leb-true}
-use Rattle.slots.specs.Nodes.{Node, Now, nodes, putRows, rowsAt}
+use Rattle.slots.specs.Nodes.{Node, nodes, putRows, rowsAt}
+use Rattle.slots.specs.Contracts.{Now}
 use Rattle.slots.proofs.Nodes.{length-nodes, become, put-same, put-put}
 use Rattle.slots.proofs.Pairs.{own-rows}
 use Rattle.model.specs.declared.Settings.{Settings}

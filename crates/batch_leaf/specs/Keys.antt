@@ -9,7 +9,8 @@ use Rattle.slots_raw.specs.declared.Row.{Row}
 use Rattle.slots_find.specs.declared.Found.{Found}
 use Rattle.slots_find.specs.declared.Found.the-variants as F
 use Rattle.slots_raw.specs.Slots.{blank}
-use Rattle.slots.specs.Nodes.{Now, At, Rows, Room, nodes, rowsAt, putRows, putIn, without}
+use Rattle.slots.specs.Nodes.{nodes, rowsAt, putRows, putIn, without}
+use Rattle.slots.specs.Contracts.{Now, At, Rows, Room}
 use Rattle.model.specs.declared.Settings.{Settings}
 use Rattle.model.specs.declared.Effect.{Effect}
 use Rattle.model.specs.declared.Effect.the-variants.{Leave, Add, Replace, Remove}
@@ -39,11 +40,11 @@ performed l i k (Replace r) = set l i (entryRow (entryFor k r))
 performed l i k Remove = without l i 1
 
 -- node s lets it be done
-abbrev pub Able : Settings → List ℕ → ℕ → ℕ → Effect → Type 0
-Able st W s i Leave = At st W s
-Able st W s i (Add r) = Room st W s i 1
-Able st W s i (Replace r) = Rows st W s i 1
-Able st W s i Remove = Rows st W s i 1
+abbrev pub ToPerform : Settings → List ℕ → ℕ → ℕ → Effect → Type 0
+ToPerform st W s i Leave = At st W s
+ToPerform st W s i (Add r) = Room st W s i 1
+ToPerform st W s i (Replace r) = Rows st W s i 1
+ToPerform st W s i Remove = Rows st W s i 1
 
 -- the leaf's entries are what the task makes of them, and e is its effect
 pub record KeyDone (st : Settings) (W W′ : List ℕ) (s : ℕ) (t : Task) (e : Effect) : Type 0 where

@@ -5,7 +5,8 @@ use mathlib.Core.Path.{_≡_}
 use mathlib.Core.Bool.{false}
 use mathlib.Core.List.{List, map}
 use lib.ListN.{length, drop, getD}
-use Rattle.slots.specs.Nodes.{Held, Now, nodes, rowsAt, putRows}
+use Rattle.slots.specs.Nodes.{Held, nodes, rowsAt, putRows}
+use Rattle.slots.specs.Contracts.{Now}
 use Rattle.model.specs.declared.Settings.{Settings}
 use Rattle.model.specs.declared.Entry.{Entry}
 use Rattle.model.specs.declared.Operation.{Operation}

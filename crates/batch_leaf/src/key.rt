@@ -1,10 +1,11 @@
 // One key in a leaf: it is looked for, what is asked of it is decided, and done.
 ghost use mathlib.Core.Path.{_≡_};
 ghost use Rattle.words.specs.Words.{words};
-ghost use Rattle.slots.specs.Nodes.{Now, At, nodes, rowsAt, putRows};
+ghost use Rattle.slots.specs.Nodes.{nodes, rowsAt, putRows};
+ghost use Rattle.slots.specs.Contracts.{Now, At};
 ghost use Rattle.slots_find.specs.Search.{Sought};
 ghost use Rattle.batch_leaf.specs.Leaf.{Leaf};
-ghost use Rattle.batch_leaf.specs.Keys.{presenceAt, placeOf, performed, Able, KeyDone};
+ghost use Rattle.batch_leaf.specs.Keys.{presenceAt, placeOf, performed, ToPerform, KeyDone};
 use batch_effect::Presence;
 use batch_effect::decide;
 use batch_effect::wide;
@@ -52,7 +53,7 @@ fn place_of(found: Found) -> usize
 
 // Does what is decided at row `i` of leaf `s`.
 fn perform(pool: &mut [u8], st: Settings, s: usize, i: usize, key: u64, e: Effect)
-    requires { ⌜ Able st (words (now pool)) s i e ⌝ }
+    requires { ⌜ ToPerform st (words (now pool)) s i e ⌝ }
     ensures { λ _. let W = words (now (pool .entry)) in
         ⌜ Now st W (words (now (pool .exit))) (putRows (nodes st W) s (performed (rowsAt st W s) i key e)) ⌝ }
 {

@@ -33,7 +33,7 @@ use Rattle.batch_share.proofs.Parents.{unused-rows}
 use Rattle.model.specs.declared.ChangeResult.{ChangeResult}
 use Rattle.tree_spare.specs.Spared.{Spared}
 use Rattle.tree_spare.proofs.Spares.{spared-same}
-use Rattle.batch_node.specs.Calls.{runOf, ToChange, Came}
+use Rattle.batch_node.specs.Calls.{runOf, ToChange, NodeChanged}
 
 -- a slot in use is one of the pool's
 pub slot-in : (st : Settings) (W : List ℕ) (s : ℕ) → nth (nodes st W) s .kind ≢ 0 → s < st .nodes
@@ -117,7 +117,7 @@ module _ {st : Settings} {W : List ℕ} {leaf : Subtree} {b : Call} {run : Run} 
     long : n ≡ length (o .node .items)
     long = en ∙ ap (λ (m : S.Node). length (m .rows)) node ∙ length-map (o .node .items) entryRow
 
-    pub leaf-came : Came st W W′ 0 leaf b run (record { run = r .run; result = v })
+    pub leaf-came : NodeChanged st W W′ 0 leaf b run (record { run = r .run; result = v })
     leaf-came =
         record {
           held = took .did .held;

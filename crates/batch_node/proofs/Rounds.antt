@@ -10,7 +10,8 @@ use lib.ListN.{length, getD, drop, length-map, length-drop, length-append, lengt
 use borrow.Author.Tests.{lt-ltb, ltb-true, leb-true}
 use Rattle.slots_raw.specs.declared.Row.{Row}
 use Rattle.slots_raw.specs.Slots.{blank, headIn}
-use Rattle.slots.specs.Nodes.{Held, At, nodes, rowsAt}
+use Rattle.slots.specs.Nodes.{Held, nodes, rowsAt}
+use Rattle.slots.specs.Contracts.{At}
 use Rattle.slots.specs.Nodes as S
 use Rattle.model.specs.declared.Settings.{Settings}
 use Rattle.model.specs.declared.Counts.{Counts}
@@ -33,11 +34,11 @@ use Rattle.tree.proofs.ReadOff.{Light, Lights, child-slot, held-tree, kids-read
 use Rattle.model.specs.declared.ChangeResult.{ChangeResult}
 use Rattle.tree_spare.specs.Spared.{Spared}
 use Rattle.batch_share.specs.declared.Standing.{Standing}
-use Rattle.batch_share.specs.Settle.{kidsAt, childAt, beforeAt, afterAt, Loose, Pend, Pending, Settled, Ended, Done}
+use Rattle.batch_share.specs.Settle.{kidsAt, childAt, beforeAt, afterAt, Loose, Pend, ToSettle, Settled, Ended, Done}
 use Rattle.batch_share.proofs.Zips.{drop-turned, getD-turned, map-turned}
 use Rattle.batch_share.proofs.Places.{before-is, child-is, after-is}
 use Rattle.batch_node.specs.declared.Reply.{Reply}
-use Rattle.batch_node.specs.Calls.{runOf, Asked, ToChange, Answers, Came}
+use Rattle.batch_node.specs.Calls.{runOf, Asked, ToChange, Answers, NodeChanged}
 use Rattle.tree_node.specs.Ask.{childFor, Chosen}
 use Rattle.tree_node.proofs.Seeks.{seek-child}
 use Rattle.batch_seek.specs.Seek.{roams}
@@ -175,7 +176,7 @@ module _ {st : Settings} {W₀ W : List ℕ} {h : ℕ} {node : Subtree} {b : Cal
 
   pub round-end : (v : ChangeResult) {n : ℕ} → roams (b .keys) (run .next) (node .ceiling) i (length (rowsAt st W (node .slot))) ≡ false → n ≡ length (rowsAt st W (node .slot))
       → v ≡ resultOf st changed n
-      → Came st W₀ W (suc h) node b run₀ (record { run = run; result = v })
+      → NodeChanged st W₀ W (suc h) node b run₀ (record { run = run; result = v })
   round-end v q en ev =
       let f : Answers (suc h) (nodes st W₀) (nodes st W) t₀ (change st (suc h) (node .ceiling) t₀ (drop (run₀ .next) ts) (runOf (nodes st W₀) (run₀ .counts))) (drop (run .next) ts)
       (resultOf st changed (length (m .before) + length (m .rest))) (run .counts) =
@@ -276,7 +277,7 @@ module _ {st : Settings} {W₀ W : List ℕ} {h : ℕ} {node : Subtree} {b : Cal
             }
 
         -- AFTER THE CALL
-        module _ {W₁ : List ℕ} {g : ℕ} {y : Reply} (came : Came st W W₁ h (record { height = g; slot = slot; ceiling = reach }) b run y) where
+        module _ {W₁ : List ℕ} {g : ℕ} {y : Reply} (came : NodeChanged st W W₁ h (record { height = g; slot = slot; ceiling = reach }) b run y) where
           abbrev o : Outcome (Tree h)
           o = change st h top (z .child) (r .task ∷ r .tasks) (runOf (nodes st W) (run .counts))
 
@@ -340,7 +341,7 @@ module _ {st : Settings} {W₀ W : List ℕ} {h : ℕ} {node : Subtree} {b : Cal
               ap length rows-now ∙ length-map (reverseAux (z .before) (z .child ∷ z .after)) (rowFor (suc h)) ∙ length-reverseAux (z .before) (z .child ∷ z .after)
 
           -- WHAT SETTLING ASKS
-          pub pending : Pending st W₁ h (node .slot) j (y .run .spare) (y .result)
+          pub pending : ToSettle st W₁ h (node .slot) j (y .run .spare) (y .result)
           pending =
               cross (Pend st W₁ h (node .slot) j (y .run .spare) (y .result)) (sym (before-is ns₁ h (node .slot) (z .before) (o .node) (z .after) j kids-now found-at))
               (sym (child-is ns₁ h (node .slot) (z .before) (o .node) (z .after) j kids-now found-at)) (sym (after-is ns₁ h (node .slot) (z .before) (o .node) (z .after) j kids-now found-at))

@@ -60,7 +60,7 @@ pub record Answers (h : ℕ) (ns ms : List S.Node) (t : Tree h) (o : Outcome (Tr
   pub result : r ≡ o .result
   pub counts : c ≡ o .run .counts
 
-pub record Came (st : Settings) (W W′ : List ℕ) (h : ℕ) (node : Subtree) (b : Call) (run : Run) (r : Reply) : Type 0 where
+pub record NodeChanged (st : Settings) (W W′ : List ℕ) (h : ℕ) (node : Subtree) (b : Call) (run : Run) (r : Reply) : Type 0 where
   pub held : Held st W′
   pub header : headIn W′ ≡ headIn W
   pub answers :

@@ -5,7 +5,7 @@
 ghost use Prim.Native.Nat.{suc, _-_, _<_};
 ghost use Rattle.words.specs.Words.{words};
 ghost use Rattle.model.specs.Refuse.{call};
-ghost use Rattle.batch_node.specs.Calls.{ToChange, Came};
+ghost use Rattle.batch_node.specs.Calls.{ToChange, NodeChanged};
 use batch_leaf::Run;
 use batch_leaf::Subtree;
 use batch_seek::ceiling_for;
@@ -36,7 +36,7 @@ pub fn node_change(
 ) -> Reply
     requires { ⌜ ToChange st (words (now pool)) (node .height) node (call op (now places) (now sizes) (now keys)) run ⌝ }
     ensures { λ r. let b = call op (now (places .entry)) (now (sizes .entry)) (now (keys .entry)) in
-        ⌜ Came st (words (now (pool .entry))) (words (now (pool .exit))) (node .height) node b run r ⌝ }
+        ⌜ NodeChanged st (words (now (pool .entry))) (words (now (pool .exit))) (node .height) node b run r ⌝ }
 {
     if node.height == 0 {
         return leaf_change(pool, st, node, keys, places, sizes, op, run);
@@ -58,7 +58,7 @@ fn interior_change(
     requires interior { ⌜ 0 < node .height ⌝ }
     requires asked { ⌜ ToChange st (words (now pool)) (suc (node .height - 1)) node (call op (now places) (now sizes) (now keys)) run ⌝ }
     ensures { λ r. let b = call op (now (places .entry)) (now (sizes .entry)) (now (keys .entry)) in
-        ⌜ Came st (words (now (pool .entry))) (words (now (pool .exit))) (suc (node .height - 1)) node b run r ⌝ }
+        ⌜ NodeChanged st (words (now (pool .entry))) (words (now (pool .exit))) (suc (node .height - 1)) node b run r ⌝ }
 {
     let below = node.height - 1;
     let mut i = 0;
@@ -108,7 +108,7 @@ fn leaf_change(
 ) -> Reply
     requires { ⌜ ToChange st (words (now pool)) 0 leaf (call op (now places) (now sizes) (now keys)) run ⌝ }
     ensures { λ r. let b = call op (now (places .entry)) (now (sizes .entry)) (now (keys .entry)) in
-        ⌜ Came st (words (now (pool .entry))) (words (now (pool .exit))) 0 leaf b run r ⌝ }
+        ⌜ NodeChanged st (words (now (pool .entry))) (words (now (pool .exit))) 0 leaf b run r ⌝ }
 {
     let r = batch_leaf::take_keys(pool, st, leaf, keys, places, sizes, op, run);
     let n = slots::count(pool, st, leaf.slot);

@@ -4,7 +4,8 @@ use mathlib.Core.List.{List}
 use Prim.Native.Nat.{ℕ, _<_}
 use native.Mathlib.Omega.{arith}
 use lib.ListN.{length}
-use Rattle.slots.specs.Nodes.{Now, nodes, nth, rowsAt, splitNodes}
+use Rattle.slots.specs.Nodes.{nodes, nth, rowsAt, splitNodes}
+use Rattle.slots.specs.Contracts.{Now, ToSplit}
 use Rattle.slots.specs.Nodes as S
 use Rattle.slots_find.specs.Search.{Lowest}
 use Rattle.slots.proofs.Nodes.{length-nodes}
@@ -20,11 +21,11 @@ use Rattle.tree_spare.specs.declared.Spare.{Spare}
 use Rattle.tree_spare.specs.Spared.{Spared, ToTake}
 use Rattle.tree_spare.proofs.Spares.{spared-in, spared-taken}
 use Rattle.batch_share.proofs.Places.{node-used}
-use Rattle.batch_root.specs.Roots.{Splits, Halved, Moves, moved, Crowns, crowned}
+use Rattle.batch_root.specs.Roots.{ToSplitRoot, Halved, ToMove, moved, ToCrown, crowned}
 use Rattle.batch_root.proofs.Indexes.{keeps-root, now-holds}
 use Rattle.batch_root.proofs.Halves as H
 
-module _ {st : Settings} {W₀ : List ℕ} {h : ℕ} {spare : Spare} (pre : Splits st W₀ h spare) where
+module _ {st : Settings} {W₀ : List ℕ} {h : ℕ} {spare : Spare} (pre : ToSplitRoot st W₀ h spare) where
   abbrev ns : List S.Node
   ns = nodes st W₀
 
@@ -43,7 +44,7 @@ module _ {st : Settings} {W₀ : List ℕ} {h : ℕ} {spare : Spare} (pre : Spli
   a-in : a < length ns
   a-in = omega (arith, length-nodes st W₀, a-nodes)
 
-  pub to-move : Moves st W₀ a
+  pub to-move : ToMove st W₀ a
   to-move =
       record {
         held = pre .keeps .held;
@@ -92,7 +93,7 @@ module _ {st : Settings} {W₀ : List ℕ} {h : ℕ} {spare : Spare} (pre : Spli
       long : length (rowsAt st W₁ a) ≡ len t
       long = ap (λ (z : List S.Node). length (nth z a .rows)) (mv .is) ∙ H.whole-long top second b-in
 
-      pub to-split : {n k : ℕ} → n ≡ length (rowsAt st W₁ a) → k ≡ half n → S.Split st W₁ a b k
+      pub to-split : {n k : ℕ} → n ≡ length (rowsAt st W₁ a) → k ≡ half n → ToSplit st W₁ a b k
       to-split en ek =
           record {
             held = mv .held;
@@ -107,7 +108,7 @@ module _ {st : Settings} {W₀ : List ℕ} {h : ℕ} {spare : Spare} (pre : Spli
         split-is : nodes st W₂ ≡ splitNodes (moved (st .root) ns a) a b (half (len t))
         split-is = sp .is ∙ (λ j. splitNodes (mv .is j) a b ((ek ∙ ap half (en ∙ long)) j))
 
-        pub to-crown : Crowns st W₂ h a b
+        pub to-crown : ToCrown st W₂ h a b
         to-crown =
             record {
               held = sp .held;

@@ -4,7 +4,8 @@ use mathlib.Core.List.{List}
 use Prim.Native.Nat.{ℕ, _<_}
 use lib.ListN.{length}
 use native.Mathlib.Omega.{arith}
-use Rattle.slots.specs.Nodes.{Now, nodes, nth}
+use Rattle.slots.specs.Nodes.{nodes, nth}
+use Rattle.slots.specs.Contracts.{Now}
 use Rattle.slots.proofs.Nodes.{length-nodes}
 use Rattle.model.proofs.Lists.{all-head}
 use Rattle.tree.proofs.Unused.{used-in}
@@ -15,7 +16,7 @@ use Rattle.model.specs.declared.Settings.{Settings}
 use Rattle.model.specs.Tree.{Tree, Index, entriesOf}
 use Rattle.tree.specs.Bridge.{treeAt, unusedOf, Holds, HoldsIndex}
 use Rattle.tree.proofs.ReadOff.{Light, held-tree}
-use Rattle.batch_root.specs.Roots.{indexAt, Keeps, Becomes}
+use Rattle.batch_root.specs.Roots.{indexAt, ToCollapse, Becomes}
 
 -- a tree with its root in slot r
 pub root-read : (r : ℕ) (ns : List S.Node) (h : ℕ) (t : Tree h) → t .slot ≡ r → Light h t → Holds ns h t → treeAt ns h r ≡ t
@@ -29,7 +30,7 @@ index-read r ns h x eh e light k =
     ∙ ap (λ (l : List ℕ). record { height = x .height; root = x .root; unused = l }) (k .unused)
 
 -- the root of an index that a pool holds is in one of its slots
-pub keeps-root : {st : Settings} {W : List ℕ} {h : ℕ} → Keeps st W (indexAt (st .root) (nodes st W) h) → st .root < st .nodes
+pub keeps-root : {st : Settings} {W : List ℕ} {h : ℕ} → ToCollapse st W (indexAt (st .root) (nodes st W) h) → st .root < st .nodes
 keeps-root {st} {W} {h} k =
     let ns : List S.Node = nodes st W in
     let t : Tree h = treeAt (nodes st W) h (st .root) in

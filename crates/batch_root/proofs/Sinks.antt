@@ -6,7 +6,8 @@ use Prim.Native.Nat.{ℕ, suc, _<_}
 use native.Mathlib.Omega.{arith}
 use lib.ListN.{length, getD}
 use Rattle.slots_raw.specs.Slots.{blank, headIn}
-use Rattle.slots.specs.Nodes.{Now, Give, nodes, nth, rowsAt, unused, putRows, putKind, put2, without, joinNodes}
+use Rattle.slots.specs.Nodes.{nodes, nth, rowsAt, unused, putRows, putKind, put2, without, joinNodes}
+use Rattle.slots.specs.Contracts.{Now, ToGive}
 use Rattle.slots.specs.Nodes as S
 use Rattle.slots.proofs.Nodes.{length-nodes, fits-node, then, become}
 use Rattle.slots.proofs.Pairs.{kept-same, own-rows}
@@ -20,16 +21,16 @@ use Rattle.tree_spare.specs.Spared.{Spared, freeing}
 use Rattle.tree_spare.proofs.Spares.{spared-freed}
 use Rattle.batch_share.specs.Settle.{childAt}
 use Rattle.batch_share.proofs.Places.{slot-of}
-use Rattle.batch_root.specs.Roots.{indexAt, Keeps, Becomes, RootSettled, Lone, Lifted, lifted, collapsed}
+use Rattle.batch_root.specs.Roots.{indexAt, ToCollapse, Becomes, RootSettled, ToLift, Lifted, lifted, collapsed}
 use Rattle.batch_root.proofs.Indexes.{index-read, keeps-root, now-holds}
 use Rattle.batch_root.proofs.Lifts.{none-left, raised, Single, child-root, child-in, raise, raise-holds}
 use Rattle.batch_root.proofs.Lifts.{lifted-list, lifted-apart, lifted-same, ends-leaf, ends-wide}
 
-single : {st : Settings} {W : List ℕ} {h : ℕ} {spare : Spare} → Lone st W h spare → Single (st .root) (nodes st W) h
+single : {st : Settings} {W : List ℕ} {h : ℕ} {spare : Spare} → ToLift st W h spare → Single (st .root) (nodes st W) h
 single p = record { holds = p .keeps .holds .tree; apart = p .keeps .apart; one = p .one }
 
 -- ONE CHILD, named by the root's row
-module _ {st : Settings} {W₀ : List ℕ} {h : ℕ} {spare : Spare} (pre : Lone st W₀ h spare) {child : ℕ}
+module _ {st : Settings} {W₀ : List ℕ} {h : ℕ} {spare : Spare} (pre : ToLift st W₀ h spare) {child : ℕ}
     (named : child ≡ childOf (getD (rowsAt st W₀ (st .root)) 0 blank)) where
   abbrev ns : List S.Node
   ns = nodes st W₀
@@ -45,7 +46,7 @@ module _ {st : Settings} {W₀ : List ℕ} {h : ℕ} {spare : Spare} (pre : Lone
 
   module _ {W₁ W₂ : List ℕ} {k : ℕ} (ek : k ≡ kindFor h) (out : Now st W₀ W₁ (putRows (nodes st W₀) (st .root) (without (rowsAt st W₀ (st .root)) 0 1)))
       (kinded : Now st W₁ W₂ (putKind (nodes st W₁) (st .root) k)) where
-    pub to-join : Give st W₂ child (st .root) (length (rowsAt st W₂ child))
+    pub to-join : ToGive st W₂ child (st .root) (length (rowsAt st W₂ child))
     to-join =
         let bare : length (rowsAt st W₂ (st .root)) ≡ 0 =
         ap length (kept-same st W₁ W₂ (st .root) (st .root) k kinded root-in ∙ own-rows st W₀ W₁ (st .root) (without (rowsAt st W₀ (st .root)) 0 1) out root-in
@@ -84,31 +85,31 @@ module _ {st : Settings} {W₀ : List ℕ} {h : ℕ} {spare : Spare} (pre : Lone
 -- THE LOOP
 
 pub record Sinking (st : Settings) (W₀ W : List ℕ) (h₀ h : ℕ) (spare : Spare) : Type 0 where
-  pub keeps : Keeps st W (indexAt (st .root) (nodes st W) h)
+  pub keeps : ToCollapse st W (indexAt (st .root) (nodes st W) h)
   pub header : headIn W ≡ headIn W₀
   pub spared : Spared (nodes st W) spare
   pub same : collapsed (indexAt (st .root) (nodes st W) h) ≡ collapsed (indexAt (st .root) (nodes st W₀) h₀)
 
-pub sink-start : {st : Settings} {W : List ℕ} {h : ℕ} {spare : Spare} → Keeps st W (indexAt (st .root) (nodes st W) h) → Spared (nodes st W) spare
+pub sink-start : {st : Settings} {W : List ℕ} {h : ℕ} {spare : Spare} → ToCollapse st W (indexAt (st .root) (nodes st W) h) → Spared (nodes st W) spare
     → Sinking st W W h h spare
 sink-start k x = record { keeps = k; header = refl; spared = x; same = refl }
 
 module _ {st : Settings} {W₀ W : List ℕ} {h₀ h : ℕ} {spare : Spare} (m : Sinking st W₀ W h₀ h spare) where
   -- a root with one child, of height g, gives way to it
-  pub lone : {g : ℕ} → h ≡ suc g → length (rowsAt st W (st .root)) ≡ 1 → Lone st W g spare
-  lone e q = record { keeps = subst (λ (n : ℕ). Keeps st W (indexAt (st .root) (nodes st W) n)) e (m .keeps); spared = m .spared; one = q }
+  pub lone : {g : ℕ} → h ≡ suc g → length (rowsAt st W (st .root)) ≡ 1 → ToLift st W g spare
+  lone e q = record { keeps = subst (λ (n : ℕ). ToCollapse st W (indexAt (st .root) (nodes st W) n)) e (m .keeps); spared = m .spared; one = q }
 
   pub sink-on : {g : ℕ} {W′ : List ℕ} {r : Spare} → h ≡ suc g → length (rowsAt st W (st .root)) ≡ 1 → Lifted st W W′ g r → Sinking st W₀ W′ h₀ g r
   sink-on {g} {W′} e q done =
       let b = done .becomes in
-      let p : Lone st W g spare = lone e q in
+      let p : ToLift st W g spare = lone e q in
       let list = lifted-list (single p) in
       let small : length (entriesOf (lifted (st .root) (nodes st W) g)) < 1048576 = omega (arith, ap length list, p .keeps .small) in
       let is : indexAt (st .root) (nodes st W′) g ≡ lifted (st .root) (nodes st W) g = index-read (st .root) (nodes st W′) g (lifted (st .root) (nodes st W) g) refl refl small (b .holds) in
-      let now : Keeps st W′ (lifted (st .root) (nodes st W) g) =
+      let now : ToCollapse st W′ (lifted (st .root) (nodes st W) g) =
       record { held = b .held; holds = b .holds; apart = lifted-apart (single p); small = small; fit = subst (All Fits) (sym list) (p .keeps .fit) } in
       record {
-        keeps = subst (Keeps st W′) (sym is) now;
+        keeps = subst (ToCollapse st W′) (sym is) now;
         header = b .header ∙ m .header;
         spared = done .spared;
         same = ap collapsed is ∙ lifted-same (single p) ∙ ap (λ (n : ℕ). collapsed (indexAt (st .root) (nodes st W) n)) (sym e) ∙ m .same;

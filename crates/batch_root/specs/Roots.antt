@@ -29,7 +29,7 @@ abbrev pub indexAt : ℕ → List S.Node → ℕ → Index
 indexAt root ns h = record { height = h; root = treeAt ns h root; unused = unusedOf ns }
 
 -- it holds x, no slot of it twice, and totals fit their places in a row
-pub record Keeps (st : Settings) (W : List ℕ) (x : Index) : Type 0 where
+pub record ToCollapse (st : Settings) (W : List ℕ) (x : Index) : Type 0 where
   pub held : Held st W
   pub holds : HoldsIndex (nodes st W) x
   pub apart : Apart (x .height) (x .root)
@@ -44,8 +44,8 @@ pub record Becomes (st : Settings) (W W′ : List ℕ) (x : Index) : Type 0 wher
 
 -- A ROOT THAT IS SPLIT
 
-pub record Splits (st : Settings) (W : List ℕ) (h : ℕ) (spare : Spare) : Type 0 where
-  pub keeps : Keeps st W (indexAt (st .root) (nodes st W) h)
+pub record ToSplitRoot (st : Settings) (W : List ℕ) (h : ℕ) (spare : Spare) : Type 0 where
+  pub keeps : ToCollapse st W (indexAt (st .root) (nodes st W) h)
   pub spared : Spared (nodes st W) spare
   -- one slot for each half
   pub two : 2 ≤ length (unusedOf (nodes st W))
@@ -55,7 +55,7 @@ pub record Halved (st : Settings) (W W′ : List ℕ) (h : ℕ) (r : Spare) : Ty
   pub spared : Spared (nodes st W′) r
 
 -- its rows go to a new node of its kind, in the lowest unused slot ..
-pub record Moves (st : Settings) (W : List ℕ) (low : ℕ) : Type 0 where
+pub record ToMove (st : Settings) (W : List ℕ) (low : ℕ) : Type 0 where
   pub held : Held st W
   pub empty : Blank (nodes st W)
   pub slot : low < st .nodes
@@ -66,7 +66,7 @@ abbrev pub moved : ℕ → List S.Node → ℕ → List S.Node
 moved root ns new = put2 ns new (nth ns root) root (withRows (nth ns root) [])
 
 -- .. and it becomes the parent of that node and another, of height h
-pub record Crowns (st : Settings) (W : List ℕ) (h lower upper : ℕ) : Type 0 where
+pub record ToCrown (st : Settings) (W : List ℕ) (h lower upper : ℕ) : Type 0 where
   pub held : Held st W
   pub root : st .root < st .nodes
   pub slot : lower < st .nodes
@@ -81,8 +81,8 @@ crowned root ns h lower upper =
 
 -- A ROOT AFTER A CALL, with its result
 
-pub record Returned (st : Settings) (W : List ℕ) (root : Root) (v : ChangeResult) : Type 0 where
-  pub keeps : Keeps st W (indexAt (st .root) (nodes st W) (root .height))
+pub record ToSettleRoot (st : Settings) (W : List ℕ) (root : Root) (v : ChangeResult) : Type 0 where
+  pub keeps : ToCollapse st W (indexAt (st .root) (nodes st W) (root .height))
   pub spared : Spared (nodes st W) (root .spare)
   -- a split takes a slot for each half
   pub two : v ≡ Split → 2 ≤ length (unusedOf (nodes st W))
@@ -100,8 +100,8 @@ SettledRoot st W W′ h v r = RootSettled st W W′ (settleRoot v h (treeAt (nod
 
 -- A ROOT WITH ONE CHILD, of height h, gives way to it
 
-pub record Lone (st : Settings) (W : List ℕ) (h : ℕ) (spare : Spare) : Type 0 where
-  pub keeps : Keeps st W (indexAt (st .root) (nodes st W) (suc h))
+pub record ToLift (st : Settings) (W : List ℕ) (h : ℕ) (spare : Spare) : Type 0 where
+  pub keeps : ToCollapse st W (indexAt (st .root) (nodes st W) (suc h))
   pub spared : Spared (nodes st W) spare
   pub one : length (rowsAt st W (st .root)) ≡ 1
 

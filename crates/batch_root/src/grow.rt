@@ -1,7 +1,8 @@
 // A root that is too long becomes the parent of its two halves, which take new slots. So the root stays in its slot.
 ghost use Rattle.words.specs.Words.{words};
-ghost use Rattle.slots.specs.Nodes.{Now, nodes};
-ghost use Rattle.batch_root.specs.Roots.{Splits, Halved, Moves, moved, Crowns, crowned};
+ghost use Rattle.slots.specs.Nodes.{nodes};
+ghost use Rattle.slots.specs.Contracts.{Now};
+ghost use Rattle.batch_root.specs.Roots.{ToSplitRoot, Halved, ToMove, moved, ToCrown, crowned};
 use model::Settings;
 use model::half;
 use slots::INTERIOR;
@@ -12,7 +13,7 @@ use tree_spare::after_taking;
 // Splits the root: the lower half takes the lowest unused slot, the upper half the next. The answer is what is unused then. (The Rust's
 // `split_root`.)
 pub fn split_root(pool: &mut [u8], st: Settings, height: usize, spare: Spare) -> Spare
-    requires { ⌜ Splits st (words (now pool)) height spare ⌝ }
+    requires { ⌜ ToSplitRoot st (words (now pool)) height spare ⌝ }
     ensures { λ r. ⌜ Halved st (words (now (pool .entry))) (words (now (pool .exit))) height r ⌝ }
 {
     move_root(pool, st, spare.low);
@@ -26,7 +27,7 @@ pub fn split_root(pool: &mut [u8], st: Settings, height: usize, spare: Spare) ->
 
 // Moves the rows of the root to a new node of its kind, in the lowest unused slot.
 fn move_root(pool: &mut [u8], st: Settings, low: usize)
-    requires { ⌜ Moves st (words (now pool)) low ⌝ }
+    requires { ⌜ ToMove st (words (now pool)) low ⌝ }
     ensures { λ _. let W = words (now (pool .entry)) in ⌜ Now st W (words (now (pool .exit))) (moved (st .root) (nodes st W) low) ⌝ }
 {
     let k = slots::kind(pool, st, st.root);
@@ -37,7 +38,7 @@ fn move_root(pool: &mut [u8], st: Settings, low: usize)
 
 // Makes the root, which has no rows left, the parent of two nodes of this height.
 fn crown(pool: &mut [u8], st: Settings, height: usize, lower: usize, upper: usize)
-    requires { ⌜ Crowns st (words (now pool)) height lower upper ⌝ }
+    requires { ⌜ ToCrown st (words (now pool)) height lower upper ⌝ }
     ensures { λ _. let W = words (now (pool .entry)) in
         ⌜ Now st W (words (now (pool .exit))) (crowned (st .root) (nodes st W) height lower upper) ⌝ }
 {

@@ -2,7 +2,7 @@
 ghost use Rattle.words.specs.Words.{words};
 ghost use Rattle.slots.specs.Nodes.{nodes};
 ghost use Rattle.tree_spare.specs.Spared.{Spared};
-ghost use Rattle.batch_root.specs.Roots.{indexAt, Keeps, RootSettled, Lone, Lifted, collapsed};
+ghost use Rattle.batch_root.specs.Roots.{indexAt, ToCollapse, RootSettled, ToLift, Lifted, collapsed};
 use crate::Root;
 use model::Settings;
 use tree_spare::Spare;
@@ -10,7 +10,7 @@ use tree_spare::after_freeing;
 
 // While an interior root has one child, moves that child into the root's slot.
 pub fn collapse(pool: &mut [u8], st: Settings, root: Root) -> Root
-    requires keeps { ⌜ Keeps st (words (now pool)) (indexAt (st .root) (nodes st (words (now pool))) (root .height)) ⌝ }
+    requires keeps { ⌜ ToCollapse st (words (now pool)) (indexAt (st .root) (nodes st (words (now pool))) (root .height)) ⌝ }
     requires spared { ⌜ Spared (nodes st (words (now pool))) (root .spare) ⌝ }
     ensures { λ r. let W = words (now (pool .entry)) in
         ⌜ RootSettled st W (words (now (pool .exit))) (collapsed (indexAt (st .root) (nodes st W) (root .height))) r ⌝ }
@@ -26,7 +26,7 @@ pub fn collapse(pool: &mut [u8], st: Settings, root: Root) -> Root
 
 // Moves the root's only child, of height `below`, into the root's slot. The answer is what is unused then.
 fn lift_child(pool: &mut [u8], st: Settings, below: usize, spare: Spare) -> Spare
-    requires { ⌜ Lone st (words (now pool)) below spare ⌝ }
+    requires { ⌜ ToLift st (words (now pool)) below spare ⌝ }
     ensures { λ r. let W = words (now (pool .entry)) in ⌜ Lifted st W (words (now (pool .exit))) below r ⌝ }
 {
     let child = tree_node::child_at(pool, st, st.root, 0);

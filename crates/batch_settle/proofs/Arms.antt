@@ -7,7 +7,8 @@ use native.Mathlib.Decide.{ℕ-discrete}
 use lib.ListN.{length, take, getD, set, length-map, length-take, length-reverseAux}
 use Rattle.slots_raw.specs.declared.Row.{Row}
 use Rattle.slots_raw.specs.Slots.{blank}
-use Rattle.slots.specs.Nodes.{nodes, nth, unused, putRows, Now}
+use Rattle.slots.specs.Nodes.{nodes, nth, unused, putRows}
+use Rattle.slots.specs.Contracts.{Now}
 use Rattle.slots.specs.Nodes as S
 use Rattle.slots.proofs.Nodes.{length-nodes, nth-rows, nth-put}
 use Rattle.model.specs.declared.Settings.{Settings}
@@ -26,10 +27,10 @@ use Rattle.tree.proofs.Unused.{used-in}
 use Rattle.model.specs.declared.ChangeResult.{ChangeResult}
 use Rattle.model.specs.declared.ChangeResult.the-variants.{Unchanged}
 use Rattle.batch_share.specs.declared.Standing.{Standing}
-use Rattle.batch_share.specs.Settle.{inner, kidsAt, childAt, beforeAt, afterAt, Pending, Settled, Ended, Done}
+use Rattle.batch_share.specs.Settle.{inner, kidsAt, childAt, beforeAt, afterAt, ToSettle, Settled, Ended, Done}
 use Rattle.tree_node.specs.Ask.{rowOver}
-use Rattle.batch_share.specs.Weigh.{Renews, renewed}
-use Rattle.batch_share.specs.Steps.{Bounded, Family, Poise, Poised, Came}
+use Rattle.batch_share.specs.Weigh.{ToRenew, renewed}
+use Rattle.batch_share.specs.Steps.{Bounded, Family, Poise, ToStep, Came}
 use Rattle.tree_node.proofs.Weights.{row-over}
 use Rattle.batch_share.proofs.Weights.{sums-fit, bounded-left, bounded-right}
 use Rattle.batch_share.proofs.Zips.{set-turned, map-turned}
@@ -43,7 +44,7 @@ use Rattle.batch_share.proofs.Focuses.{poise-focus}
 use Rattle.batch_share.proofs.Readings.{to-readings, from-readings}
 use Rattle.batch_share.proofs.Shares.{ended-by}
 
-module _ {st : Settings} {W : List ℕ} {h s i : ℕ} {spare : Spare} {v : ChangeResult} (t : Pending st W h s i spare v) where
+module _ {st : Settings} {W : List ℕ} {h s i : ℕ} {spare : Spare} {v : ChangeResult} (t : ToSettle st W h s i spare v) where
   abbrev ns : List S.Node
   ns = nodes st W
 
@@ -113,7 +114,7 @@ module _ {st : Settings} {W : List ℕ} {h s i : ℕ} {spare : Spare} {v : Chang
   own-y : nth ns y ≡ nodeFor h c
   own-y = ap (nth ns) ey ∙ own-child
 
-  pub start-renews : Renews st W h s i y
+  pub start-renews : ToRenew st W h s i y
   start-renews =
       record {
         held = t .held;
@@ -203,9 +204,9 @@ module _ {st : Settings} {W : List ℕ} {h s i : ℕ} {spare : Spare} {v : Chang
         }
 
     -- what a result's own function is asked
-    pub arm-asks : (u : ChangeResult) → v ≡ u → Poised st W₁ h s i spare (takes u) × Says st u (childAt (nodes st W₁) h s i)
+    pub arm-asks : (u : ChangeResult) → v ≡ u → ToStep st W₁ h s i spare (takes u) × Says st u (childAt (nodes st W₁) h s i)
     arm-asks u e =
-        subst (λ (x : ChangeResult). Poised st W₁ h s i spare (takes x) × Says st x (childAt (nodes st W₁) h s i)) e
+        subst (λ (x : ChangeResult). ToStep st W₁ h s i spare (takes x) × Says st x (childAt (nodes st W₁) h s i)) e
         (to-readings (poise-focus poise) (λ p q r. Poise st W₁ h s i spare (takes v) p q r × Says st v q) (poise, t .says))
 
     -- a result that leaves the place as it is

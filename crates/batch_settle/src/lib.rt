@@ -2,10 +2,11 @@
 ghost use lib.ListN.{getD};
 ghost use Rattle.words.specs.Words.{words};
 ghost use Rattle.slots_raw.specs.Slots.{blank};
-ghost use Rattle.slots.specs.Nodes.{Now, nodes, rowsAt};
+ghost use Rattle.slots.specs.Nodes.{nodes, rowsAt};
+ghost use Rattle.slots.specs.Contracts.{Now};
 ghost use Rattle.tree.specs.Bridge.{childOf};
-ghost use Rattle.batch_share.specs.Settle.{Pending, Done};
-ghost use Rattle.batch_share.specs.Weigh.{Renews, renewed};
+ghost use Rattle.batch_share.specs.Settle.{ToSettle, Done};
+ghost use Rattle.batch_share.specs.Weigh.{ToRenew, renewed};
 use batch_join::absorb;
 use batch_join::take_out;
 use batch_share::Standing;
@@ -26,7 +27,7 @@ pub fn settle_child(
     v: ChangeResult,
     spare: Spare,
 ) -> Standing
-    requires { ⌜ Pending st (words (now pool)) below s i spare v ⌝ }
+    requires { ⌜ ToSettle st (words (now pool)) below s i spare v ⌝ }
     ensures { λ r. ⌜ Done st (words (now (pool .entry))) (words (now (pool .exit))) below s i v r ⌝ }
 {
     match v {
@@ -52,7 +53,7 @@ pub fn settle_child(
 
 // Row `i` of node `s` becomes that of the child that it names, of height `below`.
 fn renew_child(pool: &mut [u8], st: Settings, below: usize, s: usize, i: usize)
-    requires { let W = words (now pool) in ⌜ Renews st W below s i (childOf (getD (rowsAt st W s) i blank)) ⌝ }
+    requires { let W = words (now pool) in ⌜ ToRenew st W below s i (childOf (getD (rowsAt st W s) i blank)) ⌝ }
     ensures { λ _. let W = words (now (pool .entry)) in
         ⌜ Now st W (words (now (pool .exit))) (renewed (nodes st W) below s i (childOf (getD (rowsAt st W s) i blank))) ⌝ }
 {

@@ -7,7 +7,8 @@ use native.Mathlib.Omega.{arith}
 use lib.ListN.{length, take, drop, length-map, length-append, take-append-drop}
 use lib.Seq.{set-comm, take-append-add, drop-append-add, take-append-le, drop-append-le}
 use Rattle.slots_raw.specs.declared.Row.{Row}
-use Rattle.slots.specs.Nodes.{nodes, nth, rowsAt, put2, withRows, backNodes, forwardNodes, Now}
+use Rattle.slots.specs.Nodes.{nodes, nth, rowsAt, put2, withRows, backNodes, forwardNodes}
+use Rattle.slots.specs.Contracts.{Now}
 use Rattle.slots.specs.Nodes as S
 use Rattle.slots.proofs.Nodes.{become}
 use Rattle.slots_raw.proofs.Over.{map-append, map-take, map-drop}

@@ -20,8 +20,8 @@ use Rattle.tree.proofs.Cells.{cells-rest}
 use Rattle.tree.proofs.Unused.{used-in}
 use Rattle.tree_spare.specs.declared.Spare.{Spare}
 use Rattle.batch_share.specs.Settle.{inner, childAt}
-use Rattle.batch_share.specs.Weigh.{Sits}
-use Rattle.batch_share.specs.Steps.{Bounded, Focus, Focused, Poise}
+use Rattle.batch_share.specs.Weigh.{ToName}
+use Rattle.batch_share.specs.Steps.{Bounded, Focus, ToFocus, Poise}
 use Rattle.batch_share.proofs.Weights.{bounded-left, bounded-right}
 use Rattle.batch_share.proofs.Zips.{map-turned}
 use Rattle.batch_share.proofs.Places.{node-used, Named, named-at, family-rows, family-long, parent-in}
@@ -53,7 +53,7 @@ module _ {st : Settings} {W : List ℕ} {h s i : ℕ} {b : List (Tree h)} {c : T
   pub focus-few : i + 1 ≤ 64
   focus-few = omega (arith, focus-long, fits-node st W s (t .family .held), t .family .held .shape .most)
 
-  pub focus-sits : Sits st W h s i c
+  pub focus-sits : ToName st W h s i c
   focus-sits = record { held = t .family .held; parent = parent-in (t .family); within = omega (arith, focus-long); own = own-focus }
 
   pub focus-bounded : Bounded h (c .items)
@@ -70,7 +70,7 @@ module _ {st : Settings} {W : List ℕ} {h s i : ℕ} {b : List (Tree h)} {c : T
   focus-next = omega (arith, t .at, length-map b (rowFor (suc h)))
 
 -- the slot in the parent's row is the child's
-pub child-named : {st : Settings} {W : List ℕ} {h s i : ℕ} → Focused st W h s i → {x : ℕ} → x ≡ childOf (getD (rowsAt st W s) i blank)
+pub child-named : {st : Settings} {W : List ℕ} {h s i : ℕ} → ToFocus st W h s i → {x : ℕ} → x ≡ childOf (getD (rowsAt st W s) i blank)
     → Named st W h (childAt (nodes st W) h s i) x
 child-named t e = named-at (focus-sits t) e
 

@@ -7,7 +7,8 @@ use native.Mathlib.Omega.{arith}
 use lib.ListN.{length, take, drop, set, take-append-drop}
 use lib.Seq.{getD-set-other}
 use Rattle.slots_raw.specs.declared.Row as R
-use Rattle.slots.specs.Nodes.{nodes, nth, rowsAt, unused, putRows, putIn, put2, withRows, splitNodes, Room, Now}
+use Rattle.slots.specs.Nodes.{nodes, nth, rowsAt, unused, putRows, putIn, put2, withRows, splitNodes}
+use Rattle.slots.specs.Contracts.{Room, Now, ToSplit}
 use Rattle.slots.specs.Nodes as S
 use Rattle.slots_find.specs.Search.{Lowest}
 use Rattle.slots.proofs.Nodes.{length-nodes}
@@ -26,9 +27,9 @@ use Rattle.tree_spare.specs.declared.Spare.{Spare}
 use Rattle.tree_spare.specs.Spared.{Spared, ToTake}
 use Rattle.tree_spare.proofs.Spares.{spared-in, spared-taken}
 use Rattle.batch_share.specs.Settle.{kidsAt, Settled}
-use Rattle.tree.specs.Sums.{Weighs}
+use Rattle.tree.specs.Sums.{ToWeigh}
 use Rattle.tree_node.specs.Ask.{rowOver}
-use Rattle.batch_share.specs.Weigh.{Renews, renewed}
+use Rattle.batch_share.specs.Weigh.{ToRenew, renewed}
 use Rattle.batch_share.specs.Steps.{Bounded, Focus, Poise, Came, Left}
 use Rattle.tree_node.proofs.Weights.{row-over}
 use Rattle.batch_share.proofs.Weights.{sums-fit, bounded-left, bounded-right}
@@ -80,7 +81,7 @@ module _ {st : Settings} {W : List ℕ} {h s i : ℕ} {spare : Spare} {b : List 
   long : n ≡ len c
   long = en ∙ node-len ns h y c (ap (nth ns) ey ∙ own-focus t)
 
-  pub can-split : S.Split st W y x k
+  pub can-split : ToSplit st W y x k
   can-split =
       rw ey (record {
         held = t .family .held;
@@ -130,7 +131,7 @@ module _ {st : Settings} {W : List ℕ} {h s i : ℕ} {spare : Spare} {b : List 
     rows-in : (z : ℕ) (n : S.Node) → nth halfNodes z ≡ n → rowsAt st W₁ z ≡ n .rows
     rows-in z n e = ap (λ (ms : List S.Node). nth ms z .rows) nodes-half ∙ ap (λ (m : S.Node). m .rows) e
 
-    pub upper-weighs : Weighs st W₁ h x
+    pub upper-weighs : ToWeigh st W₁ h x
     upper-weighs = record { held = w .held; slot = new-in; sums = rw (rows-in x (nodeFor h upperHalf) at-upper) (sums-fit h upperHalf upper-bounded) }
 
     parent-rows : rowsAt st W₁ s ≡ rowsAt st W s
@@ -150,7 +151,7 @@ module _ {st : Settings} {W : List ℕ} {h s i : ℕ} {spare : Spare} {b : List 
       abbrev more : List R.Row
       more = putIn (rowsAt st W₁ s) (i + 1) (row ∷ [])
 
-      pub lower-renews : Renews st W₂ h s i y
+      pub lower-renews : ToRenew st W₂ h s i y
       lower-renews =
           renews-after st W₁ W₂ h s i y more (parent-in (t .family)) (λ e. focus-away t (sym ey ∙ e)) v
           (omega (

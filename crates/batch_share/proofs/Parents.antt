@@ -6,7 +6,8 @@ use Prim.Native.Nat.{ℕ, _+_, _<_}
 use native.Mathlib.Omega.{arith}
 use lib.ListN.{length, set, length-set}
 use Rattle.slots_raw.specs.declared.Row.{Row}
-use Rattle.slots.specs.Nodes.{nodes, nth, rowsAt, putRows, withRows, Now}
+use Rattle.slots.specs.Nodes.{nodes, nth, rowsAt, putRows, withRows}
+use Rattle.slots.specs.Contracts.{Now}
 use Rattle.slots.specs.Nodes as S
 use Rattle.slots.proofs.Nodes.{then, become, nth-rows, nth-put, put-put, length-nodes}
 use Rattle.slots.proofs.Pairs.{kept-rows, own-rows}
@@ -15,7 +16,7 @@ use Rattle.tree.specs.Bridge.{unusedOf}
 use Rattle.tree.proofs.Unused.{unused-kept}
 use Rattle.tree.specs.Sums.{Sums}
 use Rattle.tree_node.specs.Ask.{rowOver}
-use Rattle.batch_share.specs.Weigh.{Renews, renewed, RenewsTwo, renewedTwo}
+use Rattle.batch_share.specs.Weigh.{ToRenew, renewed, ToRenewTwo, renewedTwo}
 
 pub unused-rows : (ns : List S.Node) (s : ℕ) (l : List Row) → unusedOf (putRows ns s l) ≡ unusedOf ns
 unfolding putRows
@@ -28,7 +29,7 @@ module _ (st : Settings) (W₀ W₁ : List ℕ) (h s i c : ℕ) (l : List Row) (
   inside : s < length (nodes st W₀)
   inside = omega (arith, parent, length-nodes st W₀)
 
-  pub renews-after : i < length l → c < st .nodes → Sums h (rowsAt st W₀ c) → Renews st W₁ h s i c
+  pub renews-after : i < length l → c < st .nodes → Sums h (rowsAt st W₀ c) → ToRenew st W₁ h s i c
   renews-after within slot sums =
       let mine : rowsAt st W₁ s ≡ l = own-rows st W₀ W₁ s l w parent in
       record { held = w .held; parent = parent; within = omega (arith, within, ap length mine); slot = slot; sums = rw (kept-rows st W₀ W₁ c s l w away) sums }
@@ -44,11 +45,11 @@ module _ (st : Settings) (W₀ W₁ : List ℕ) (h s i c : ℕ) (l : List Row) (
 
 -- TWO ROWS MADE NEW
 
-module _ (st : Settings) (W₀ W₁ : List ℕ) (h s i p c : ℕ) (t : RenewsTwo st W₀ h s i p c) (w : Now st W₀ W₁ (renewed (nodes st W₀) h s i p)) where
+module _ (st : Settings) (W₀ W₁ : List ℕ) (h s i p c : ℕ) (t : ToRenewTwo st W₀ h s i p c) (w : Now st W₀ W₁ (renewed (nodes st W₀) h s i p)) where
   abbrev first : List Row
   first = set (rowsAt st W₀ s) i (rowOver h p (rowsAt st W₀ p))
 
-  pub renews-second : Renews st W₁ h s (i + 1) c
+  pub renews-second : ToRenew st W₁ h s (i + 1) c
   renews-second =
       renews-after st W₀ W₁ h s (i + 1) c first (t .parent) (t .away) w
       (omega (arith, t .within, length-set (rowsAt st W₀ s) i (rowOver h p (rowsAt st W₀ p)))) (t .slot2) (t .sums2)

@@ -7,7 +7,8 @@ use native.Mathlib.Omega.{arith}
 use lib.ListN.{length, take, drop, getD, length-map, List·getD-map}
 use Rattle.slots_raw.specs.declared.Row.{Row}
 use Rattle.slots_raw.specs.Slots.{blank}
-use Rattle.slots.specs.Nodes.{Rows, nodes, nth, rowsAt}
+use Rattle.slots.specs.Nodes.{nodes, nth, rowsAt}
+use Rattle.slots.specs.Contracts.{Rows}
 use Rattle.slots.specs.Nodes as S
 use Rattle.slots.proofs.Nodes.{length-nodes}
 use Rattle.model.specs.declared.Settings.{Settings}
@@ -21,7 +22,7 @@ use Rattle.tree.proofs.Unused.{used-in}
 use Rattle.tree.proofs.ReadOff.{kids-read}
 use Rattle.tree.proofs.SoundHolds.{slot-read}
 use Rattle.batch_share.specs.Settle.{inner, kidsAt, childAt, beforeAt, afterAt}
-use Rattle.batch_share.specs.Weigh.{Sits}
+use Rattle.batch_share.specs.Weigh.{ToName}
 use Rattle.batch_share.specs.Steps.{Family, Came}
 use Rattle.batch_share.proofs.Zips.{take-turned, drop-turned, getD-turned, twice-turned, apart-at}
 
@@ -39,7 +40,7 @@ pub record Named (st : Settings) (W : List ℕ) (h : ℕ) (c : Tree h) (r : ℕ)
   pub slot : r < st .nodes
   pub count : length (rowsAt st W r) ≡ len c
 
-module _ {st : Settings} {W : List ℕ} {h s i : ℕ} {c : Tree h} (t : Sits st W h s i c) where
+module _ {st : Settings} {W : List ℕ} {h s i : ℕ} {c : Tree h} (t : ToName st W h s i c) where
   pub sits-row : Rows st W s i 1
   sits-row = record { held = t .held; slot = t .parent; within = omega (arith, t .within) }
 
@@ -47,7 +48,7 @@ module _ {st : Settings} {W : List ℕ} {h s i : ℕ} {c : Tree h} (t : Sits st 
 pub slot-of : (ns : List S.Node) (h s i : ℕ) {y : ℕ} → y ≡ childOf (getD (nth ns s .rows) i blank) → y ≡ childAt ns h s i .slot
 slot-of ns h s i e = e ∙ sym (slot-read ns h (childOf (getD (nth ns s .rows) i blank)))
 
-pub named-at : {st : Settings} {W : List ℕ} {h s i : ℕ} → Sits st W h s i (childAt (nodes st W) h s i) → {r : ℕ}
+pub named-at : {st : Settings} {W : List ℕ} {h s i : ℕ} → ToName st W h s i (childAt (nodes st W) h s i) → {r : ℕ}
     → r ≡ childOf (getD (rowsAt st W s) i blank) → Named st W h (childAt (nodes st W) h s i) r
 named-at {st} {W} {h} {s} {i} t {r} e =
     let same : r ≡ childAt (nodes st W) h s i .slot = slot-of (nodes st W) h s i e in

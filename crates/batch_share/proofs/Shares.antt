@@ -26,8 +26,8 @@ use Rattle.tree_spare.specs.declared.Spare.{Spare}
 use Rattle.tree_spare.specs.Spared.{Spared}
 use Rattle.tree_spare.proofs.Spares.{spared-same}
 use Rattle.batch_share.specs.declared.Standing.{Standing}
-use Rattle.batch_share.specs.Weigh.{Sits}
-use Rattle.batch_share.specs.Steps.{Family, Focus, Poise, Poised, Beside, Neighbours, Came, Left, Parted, Rowed, roomIn}
+use Rattle.batch_share.specs.Weigh.{ToName}
+use Rattle.batch_share.specs.Steps.{Family, Focus, Poise, ToStep, Beside, Neighbours, Came, Left, Parted, Rowed, roomIn}
 use Rattle.batch_share.proofs.Places.{family-long, came-kids, kids-came}
 use Rattle.batch_share.proofs.Turns.{recut-family, recut-then, sits-lower}
 use Rattle.batch_share.proofs.Cuts.{recut-back, recut-on}
@@ -191,7 +191,7 @@ module _ {st : Settings} {W : List ℕ} {h s i : ℕ} {spare : Spare} {k : ℕ} 
   next-asks (n ∷ a) t over ne = on-asks t over
 
   pub next-poised : (a : List (Tree h)) (W₁ : List ℕ) → Poise st W h s i spare k b c a → st .order < len c → (i + 1 ≡ length (rowsAt st W s) → ⊥)
-      → Parted st W W₁ h s i (shareOn st (childAt (nodes st W) h s i) (childAt (nodes st W) h s (i + 1))) → Poised st W₁ h s i spare k
+      → Parted st W W₁ h s i (shareOn st (childAt (nodes st W) h s i) (childAt (nodes st W) h s (i + 1))) → ToStep st W₁ h s i spare k
   next-poised [] W₁ t over ne m = absurd (ne (omega (arith, focus-long (poise-focus t))))
   next-poised (n ∷ a) W₁ t over ne m =
       let q = on-poise t over W₁ (on-came t over W₁ m) in
@@ -262,11 +262,11 @@ module _ {st : Settings} {W : List ℕ} {h s i : ℕ} {spare : Spare} {k : ℕ} 
 -- of any child: whether one with room is before it, a test tells
 module _ {st : Settings} {W : List ℕ} {h s i : ℕ} {c : Tree h} {a : List (Tree h)} where
   -- the sibling before child i
-  pub room-sits : (b : List (Tree h)) → Focus st W h s i b c a → i ≢ 0 → Sits st W h s (i - 1) (childAt (nodes st W) h s (i - 1))
+  pub room-sits : (b : List (Tree h)) → Focus st W h s i b c a → i ≢ 0 → ToName st W h s (i - 1) (childAt (nodes st W) h s (i - 1))
   room-sits [] t ne = absurd (ne (t .at))
   room-sits (p ∷ b) t ne =
       let u : Beside st W h s (i - 1) b p c a = back-beside t in
-      subst (Sits st W h s (i - 1)) (sym (read-child (lower-focus u))) (sits-lower u)
+      subst (ToName st W h s (i - 1)) (sym (read-child (lower-focus u))) (sits-lower u)
 
   pub room-told : (b : List (Tree h)) → Focus st W h s i b c a → i ≢ 0 → (n : ℕ) → n ≡ len (childAt (nodes st W) h s (i - 1)) → ltb n (st .order) ≡ roomIn st b
   room-told [] t ne n e = absurd (ne (t .at))
@@ -287,7 +287,7 @@ module _ {st : Settings} {W : List ℕ} {h s i : ℕ} {spare : Spare} {k : ℕ} 
   out-asks (p ∷ b) t room over = back-asks t over
 
   pub out-poised : (b : List (Tree h)) (W₁ : List ℕ) → Poise st W h s i spare k b c a → roomIn st b ≡ true
-      → Parted st W W₁ h s (i - 1) (shareBack st (childAt (nodes st W) h s (i - 1)) (childAt (nodes st W) h s (i - 1 + 1))) → Poised st W₁ h s i spare k
+      → Parted st W W₁ h s (i - 1) (shareBack st (childAt (nodes st W) h s (i - 1)) (childAt (nodes st W) h s (i - 1 + 1))) → ToStep st W₁ h s i spare k
   out-poised [] W₁ t room m = absurd (true≢false (sym room))
   out-poised (p ∷ b) W₁ t room m =
       let q = back-poise t W₁ (back-came t W₁ m) in

@@ -7,7 +7,8 @@ use native.Mathlib.Omega.{arith}
 use lib.ListN.{length, getD, set, length-map, length-reverseAux}
 use Rattle.slots_raw.specs.declared.Row.{Row}
 use Rattle.slots_raw.specs.Slots.{blank}
-use Rattle.slots.specs.Nodes.{nodes, nth, rowsAt, putRows, put2, Now}
+use Rattle.slots.specs.Nodes.{nodes, nth, rowsAt, putRows, put2}
+use Rattle.slots.specs.Contracts.{Now}
 use Rattle.slots.specs.Nodes as S
 use Rattle.slots.proofs.Nodes.{length-nodes, fits-node}
 use Rattle.model.specs.declared.Settings.{Settings}
@@ -23,7 +24,7 @@ use Rattle.tree.proofs.Cells.{cells-rest, kind-used}
 use Rattle.tree.proofs.Unused.{used-in}
 use Rattle.batch_share.specs.Settle.{inner, kidsAt, childAt, Settled}
 use Rattle.tree_node.specs.Ask.{rowOver}
-use Rattle.batch_share.specs.Weigh.{Sits, RenewsTwo, renewedTwo}
+use Rattle.batch_share.specs.Weigh.{ToName, ToRenewTwo, renewedTwo}
 use Rattle.batch_share.specs.Steps.{Bounded, Family, Beside, Neighbours, Came}
 use Rattle.tree_node.proofs.Weights.{row-over}
 use Rattle.batch_share.proofs.Weights.{sums-fit, bounded-left, bounded-right}
@@ -75,10 +76,10 @@ module _ {st : Settings} {W : List ℕ} {h s i : ℕ} {b : List (Tree h)} {p c :
   pub beside-few : i + 2 ≤ 64
   beside-few = omega (arith, beside-long, fits-node st W s (t .family .held), t .family .held .shape .limits .narrow)
 
-  pub sits-lower : Sits st W h s i p
+  pub sits-lower : ToName st W h s i p
   sits-lower = record { held = t .family .held; parent = parent-in (t .family); within = omega (arith, beside-long); own = own-lower }
 
-  pub sits-upper : Sits st W h s (i + 1) c
+  pub sits-upper : ToName st W h s (i + 1) c
   sits-upper = record { held = t .family .held; parent = parent-in (t .family); within = omega (arith, beside-long); own = own-upper }
 
   -- CUT OTHERWISE, the family has the slots and the items that it had
@@ -156,7 +157,7 @@ module _ {st : Settings} {W : List ℕ} {h s i : ℕ} {b : List (Tree h)} {p c :
       rows-in : (z : ℕ) (n : S.Node) → nth cutNodes z ≡ n → rowsAt st W₁ z ≡ n .rows
       rows-in z n e = ap (λ (ns : List S.Node). nth ns z .rows) (w .is) ∙ ap (λ (m : S.Node). m .rows) e
 
-      cut-renews : RenewsTwo st W₁ h s i x y
+      cut-renews : ToRenewTwo st W₁ h s i x y
       cut-renews =
           rw (ex, ey) (record {
             held = w .held;
@@ -232,7 +233,7 @@ pub record Moved (st : Settings) (W W₁ : List ℕ) (h : ℕ) (p c p′ c′ : 
 
 module _ {st : Settings} {W W₁ : List ℕ} {h s i x y : ℕ} {b : List (Tree h)} {p c p′ c′ : Tree h} {a : List (Tree h)} (t : Beside st W h s i b p c a)
     (m : Moved st W W₁ h p c p′ c′ x y) where
-  pub moved-renews : RenewsTwo st W₁ h s i x y
+  pub moved-renews : ToRenewTwo st W₁ h s i x y
   moved-renews = cut-renews t (m .recut) W₁ (m .now) x y (m .lower) (m .upper)
 
   pub moved-came : (W₂ : List ℕ) → Now st W₁ W₂ (renewedTwo (nodes st W₁) h s i x y)

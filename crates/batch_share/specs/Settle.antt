@@ -68,8 +68,8 @@ pub record Pend (st : Settings) (W : List ℕ) (h s i : ℕ) (spare : Spare) (v 
   pub empty : Blank (nodes st W)
   pub spared : Spared (nodes st W) spare
 
-abbrev pub Pending : Settings → List ℕ → ℕ → ℕ → ℕ → Spare → ChangeResult → Type 0
-Pending st W h s i spare v = Pend st W h s i spare v (beforeAt (nodes st W) h s i) (childAt (nodes st W) h s i) (afterAt (nodes st W) h s i)
+abbrev pub ToSettle : Settings → List ℕ → ℕ → ℕ → ℕ → Spare → ChangeResult → Type 0
+ToSettle st W h s i spare v = Pend st W h s i spare v (beforeAt (nodes st W) h s i) (childAt (nodes st W) h s i) (afterAt (nodes st W) h s i)
 
 -- WHAT IS ANSWERED
 

@@ -40,8 +40,8 @@ pub record Focus (st : Settings) (W : List ℕ) (h s i : ℕ) (before : List (Tr
   pub family : Family st W h s (reverseAux before (c ∷ after))
   pub at : i ≡ length before
 
-abbrev pub Focused : Settings → List ℕ → ℕ → ℕ → ℕ → Type 0
-Focused st W h s i = Focus st W h s i (beforeAt (nodes st W) h s i) (childAt (nodes st W) h s i) (afterAt (nodes st W) h s i)
+abbrev pub ToFocus : Settings → List ℕ → ℕ → ℕ → ℕ → Type 0
+ToFocus st W h s i = Focus st W h s i (beforeAt (nodes st W) h s i) (childAt (nodes st W) h s i) (afterAt (nodes st W) h s i)
 
 -- .. among stocked siblings, and may take k more slots
 pub record Poise (st : Settings) (W : List ℕ) (h s i : ℕ) (spare : Spare) (k : ℕ) (before : List (Tree h)) (c : Tree h) (after : List (Tree h)) : Type 0 where
@@ -53,8 +53,8 @@ pub record Poise (st : Settings) (W : List ℕ) (h s i : ℕ) (spare : Spare) (k
   pub room : k ≤ length (unusedOf (nodes st W))
   pub spared : Spared (nodes st W) spare
 
-abbrev pub Poised : Settings → List ℕ → ℕ → ℕ → ℕ → Spare → ℕ → Type 0
-Poised st W h s i spare k = Poise st W h s i spare k (beforeAt (nodes st W) h s i) (childAt (nodes st W) h s i) (afterAt (nodes st W) h s i)
+abbrev pub ToStep : Settings → List ℕ → ℕ → ℕ → ℕ → Spare → ℕ → Type 0
+ToStep st W h s i spare k = Poise st W h s i spare k (beforeAt (nodes st W) h s i) (childAt (nodes st W) h s i) (afterAt (nodes st W) h s i)
 
 -- of two neighbours, children i and i + 1
 pub record Beside (st : Settings) (W : List ℕ) (h s i : ℕ) (before : List (Tree h)) (p c : Tree h) (after : List (Tree h)) : Type 0 where
@@ -96,7 +96,7 @@ abbrev pub handedRows : Settings → List ℕ → ℕ → ℕ → ℕ
 handedRows st W c t = min (st .order - length (rowsAt st W t)) (length (rowsAt st W c) - st .minimum)
 
 -- node c has the minimum to hand over from, and node t at most order rows
-pub record Hands (st : Settings) (W : List ℕ) (c t : ℕ) : Type 0 where
+pub record ToHand (st : Settings) (W : List ℕ) (c t : ℕ) : Type 0 where
   pub held : Held st W
   pub slot : c < st .nodes
   pub slot2 : t < st .nodes
@@ -109,7 +109,7 @@ levelNodes ns p c =
     let l = nth ns p .rows ++ nth ns c .rows in
     put2 ns p (withRows (nth ns p) (take (half (length l)) l)) c (withRows (nth ns c) (drop (half (length l)) l))
 
-pub record Levels (st : Settings) (W : List ℕ) (p c : ℕ) : Type 0 where
+pub record ToLevel (st : Settings) (W : List ℕ) (p c : ℕ) : Type 0 where
   pub held : Held st W
   pub slot : p < st .nodes
   pub slot2 : c < st .nodes

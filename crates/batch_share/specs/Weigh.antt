@@ -14,7 +14,7 @@ use Rattle.tree_node.specs.Ask.{rowOver}
 
 -- A CHILD, named by row i of node s
 
-pub record Sits (st : Settings) (W : List ℕ) (h s i : ℕ) (c : Tree h) : Type 0 where
+pub record ToName (st : Settings) (W : List ℕ) (h s i : ℕ) (c : Tree h) : Type 0 where
   pub held : Held st W
   pub parent : s < st .nodes
   pub within : i < length (rowsAt st W s)
@@ -23,7 +23,7 @@ pub record Sits (st : Settings) (W : List ℕ) (h s i : ℕ) (c : Tree h) : Type
 -- THE PARENT'S ROWS made new
 
 -- row i of node s can be made that of node c
-pub record Renews (st : Settings) (W : List ℕ) (h s i c : ℕ) : Type 0 where
+pub record ToRenew (st : Settings) (W : List ℕ) (h s i c : ℕ) : Type 0 where
   pub held : Held st W
   pub parent : s < st .nodes
   pub within : i < length (rowsAt st W s)
@@ -34,7 +34,7 @@ abbrev pub renewed : List S.Node → ℕ → ℕ → ℕ → ℕ → List S.Node
 renewed ns h s i c = putRows ns s (set (nth ns s .rows) i (rowOver h c (nth ns c .rows)))
 
 -- rows i and i + 1 can be made those of nodes p and c
-pub record RenewsTwo (st : Settings) (W : List ℕ) (h s i p c : ℕ) : Type 0 where
+pub record ToRenewTwo (st : Settings) (W : List ℕ) (h s i p c : ℕ) : Type 0 where
   pub held : Held st W
   pub parent : s < st .nodes
   pub within : i + 1 < length (rowsAt st W s)

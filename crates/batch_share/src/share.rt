@@ -10,7 +10,7 @@ ghost use Rattle.model.specs.declared.ChangeResult.the-variants.{Split};
 ghost use Rattle.model.specs.Contracts.{Says};
 ghost use Rattle.tree.specs.Bridge.{unusedOf};
 ghost use Rattle.batch_share.specs.Settle.{Done, childAt, beforeAt, afterAt};
-ghost use Rattle.batch_share.specs.Steps.{Focused, Poised, Neighbours, Parted, Rowed, Hands, handedRows, roomIn};
+ghost use Rattle.batch_share.specs.Steps.{ToFocus, ToStep, Neighbours, Parted, Rowed, ToHand, handedRows, roomIn};
 use crate::Standing;
 use crate::weigh::child_len;
 use crate::weigh::renew;
@@ -31,7 +31,7 @@ pub fn share_out(
     i: usize,
     spare: Spare,
 ) -> Standing
-    requires steps { ⌜ Poised st (words (now pool)) below s i spare 1 ⌝ }
+    requires steps { ⌜ ToStep st (words (now pool)) below s i spare 1 ⌝ }
     requires says { ⌜ Says st Split (childAt (nodes st (words (now pool))) below s i) ⌝ }
     ensures { λ r. ⌜ Done st (words (now (pool .entry))) (words (now (pool .exit))) below s i Split r ⌝ }
 {
@@ -46,7 +46,7 @@ pub fn share_out(
 
 // Whether child `i` has a previous sibling with room.
 fn room_before(pool: &[u8], st: Settings, below: usize, s: usize, i: usize) -> bool
-    requires { ⌜ Focused st (words (now pool)) below s i ⌝ }
+    requires { ⌜ ToFocus st (words (now pool)) below s i ⌝ }
     ensures { λ r. ⌜ r ≡ roomIn st (beforeAt (nodes st (words (now (pool .entry)))) below s i) ⌝ }
 {
     if i == 0 {
@@ -64,7 +64,7 @@ fn share_next(
     i: usize,
     spare: Spare,
 ) -> Spare
-    requires { ⌜ Poised st (words (now pool)) below s i spare 1 ⌝ }
+    requires { ⌜ ToStep st (words (now pool)) below s i spare 1 ⌝ }
     ensures { λ r. let W = words (now (pool .entry)) in
         let ns = nodes st W in
         ⌜ Rowed st W (words (now (pool .exit))) below s i r (shareNext st (childAt ns below s i) (afterAt ns below s i) (unusedOf ns)) ⌝ }
@@ -89,7 +89,7 @@ fn split_over(
     i: usize,
     spare: Spare,
 ) -> Spare
-    requires { ⌜ Poised st (words (now pool)) below s i spare 1 ⌝ }
+    requires { ⌜ ToStep st (words (now pool)) below s i spare 1 ⌝ }
     ensures { λ r. let W = words (now (pool .entry)) in
         let ns = nodes st W in
         ⌜ Rowed st W (words (now (pool .exit))) below s i r (followed (splitOver st (childAt ns below s i) (unusedOf ns))
@@ -110,7 +110,7 @@ fn split_child(
     i: usize,
     spare: Spare,
 ) -> Spare
-    requires { ⌜ Poised st (words (now pool)) below s i spare 1 ⌝ }
+    requires { ⌜ ToStep st (words (now pool)) below s i spare 1 ⌝ }
     ensures { λ r. let W = words (now (pool .entry)) in
         let ns = nodes st W in
         let us = unusedOf ns in
@@ -162,7 +162,7 @@ fn give_on(pool: &mut [u8], st: Settings, below: usize, s: usize, i: usize)
 
 // How many rows node `c` hands to node `t`: the smaller of the free space of `t` and what `c` has above the minimum.
 fn handed(pool: &[u8], st: Settings, c: usize, t: usize) -> usize
-    requires { ⌜ Hands st (words (now pool)) c t ⌝ }
+    requires { ⌜ ToHand st (words (now pool)) c t ⌝ }
     ensures { λ r. ⌜ r ≡ handedRows st (words (now (pool .entry))) c t ⌝ }
 {
     let free = st.order - slots::count(pool, st, t);

@@ -1,10 +1,11 @@
 // The row by which a child stands in its parent, made new; and how long a child is.
 ghost use mathlib.Core.Path.{_≡_};
 ghost use Rattle.words.specs.Words.{words};
-ghost use Rattle.slots.specs.Nodes.{Now, nodes};
+ghost use Rattle.slots.specs.Nodes.{nodes};
+ghost use Rattle.slots.specs.Contracts.{Now};
 ghost use Rattle.model.specs.Tree.{len};
 ghost use Rattle.batch_share.specs.Settle.{childAt};
-ghost use Rattle.batch_share.specs.Weigh.{Sits, Renews, renewed, RenewsTwo, renewedTwo};
+ghost use Rattle.batch_share.specs.Weigh.{ToName, ToRenew, renewed, ToRenewTwo, renewedTwo};
 use model::Settings;
 use tree_node::child_at;
 use tree_node::weigh;
@@ -19,7 +20,7 @@ pub fn renew_two(
     p: usize,
     c: usize,
 )
-    requires { ⌜ RenewsTwo st (words (now pool)) below s i p c ⌝ }
+    requires { ⌜ ToRenewTwo st (words (now pool)) below s i p c ⌝ }
     ensures { λ _. let W = words (now (pool .entry)) in ⌜ Now st W (words (now (pool .exit))) (renewedTwo (nodes st W) below s i p c) ⌝ }
 {
     renew(pool, st, below, s, i, p);
@@ -28,7 +29,7 @@ pub fn renew_two(
 
 // Row `i` of node `s` becomes that of node `c`, of height `below`.
 pub fn renew(pool: &mut [u8], st: Settings, below: usize, s: usize, i: usize, c: usize)
-    requires { ⌜ Renews st (words (now pool)) below s i c ⌝ }
+    requires { ⌜ ToRenew st (words (now pool)) below s i c ⌝ }
     ensures { λ _. let W = words (now (pool .entry)) in ⌜ Now st W (words (now (pool .exit))) (renewed (nodes st W) below s i c) ⌝ }
 {
     let row = weigh(pool, st, below, c);
@@ -37,7 +38,7 @@ pub fn renew(pool: &mut [u8], st: Settings, below: usize, s: usize, i: usize, c:
 
 // How many rows child `i` of node `s` has.
 pub fn child_len(pool: &[u8], st: Settings, below: usize, s: usize, i: usize) -> usize
-    requires { ⌜ Sits st (words (now pool)) below s i (childAt (nodes st (words (now pool))) below s i) ⌝ }
+    requires { ⌜ ToName st (words (now pool)) below s i (childAt (nodes st (words (now pool))) below s i) ⌝ }
     ensures { λ r. ⌜ r ≡ len (childAt (nodes st (words (now (pool .entry)))) below s i) ⌝ }
 {
     let c = child_at(pool, st, s, i);

@@ -38,7 +38,7 @@ use Rattle.frame_text.specs.declared.WriteAnswer.the-variants as Write
 use Rattle.frame_text.specs.Contents as C
 use Rattle.frame_text.specs.Contents.{ofEntry, branchOf, ofBranch, held, frameOf, contentsOf}
 use Rattle.frame_text.specs.Answers.{Writes}
-use Rattle.frame.specs.Walk.{itemAt, entryFor, kindAt, frameAt, Standing, Finds}
+use Rattle.frame.specs.Walk.{itemAt, entryFor, kindAt, frameAt, ToFind, Located}
 use Rattle.frame_text.proofs.Coded.{frame-held}
 use Rattle.frame.proofs.Walks.{passed, frames-long, elem-past}
 
@@ -95,7 +95,7 @@ module _ (ns : List S.Node) (h : ℕ) where
       let rest = branches-numbered (n + nodesIn (suc h) (kid r)) rs (ap (drop 1) e) (omega (arith, long)) in
       λ j. one j ∷ rest j
 
-pub contents-numbered : (st : Settings) (W : List ℕ) (h s i : ℕ) → Standing st W h s
+pub contents-numbered : (st : Settings) (W : List ℕ) (h s i : ℕ) → ToFind st W h s
     → contentsOf (frameAt h i (treeAt (nodes st W) h s)) ≡ held (kindAt h) (numbered (nodes st W) h (i + 1) (nth (nodes st W) s .rows))
 contents-numbered st W zero s i p = ap (held Leaf) (leaf-numbered (nodes st W) (i + 1) (nth (nodes st W) s .rows))
 contents-numbered st W (suc h) s i p =
@@ -108,7 +108,7 @@ sizes-fit [] j g p = absurd (omega arith)
 sizes-fit (r ∷ rs) zero g (one f fs) = f .size
 sizes-fit (r ∷ rs) (suc j) g (one f fs) = sizes-fit rs j (omega arith) fs
 
-pub size-fits : (st : Settings) (W : List ℕ) (h s j : ℕ) → Standing st W h s → j < length (nth (nodes st W) s .rows) → h ≡ 0
+pub size-fits : (st : Settings) (W : List ℕ) (h s j : ℕ) → ToFind st W h s → j < length (nth (nodes st W) s .rows) → h ≡ 0
     → getD (nth (nodes st W) s .rows) j blank .size < 4294967296
 size-fits st W zero s j p g e = sizes-fit (nth (nodes st W) s .rows) j g (p .fit)
 size-fits st W (suc h) s j p g e = absurd (omega arith)
@@ -146,7 +146,7 @@ frame-contents (interior bs) = frame-held Interior (map ofBranch bs) ∙ ap inte
 
 -- the tree of a sound pool stands in its slot
 module _ (l : List ℕ) (s : SoundPool l) where
-  pub sound-standing : Standing (settingsIn l) (words l) (indexOf l .height) (settingsIn l .root)
+  pub sound-standing : ToFind (settingsIn l) (words l) (indexOf l .height) (settingsIn l .root)
   sound-standing =
       let st = settingsIn l in
       let x = indexOf l in
@@ -167,26 +167,26 @@ module _ (l : List ℕ) (s : SoundPool l) where
 
 -- the same of settings and a height that are the pool's own
 module _ (l : List ℕ) (s : SoundPool l) (st : Settings) (h : ℕ) (es : st ≡ settingsIn l) (eh : h ≡ indexOf l .height) where
-  pub node-standing : Standing st (words l) h (st .root)
+  pub node-standing : ToFind st (words l) h (st .root)
   node-standing =
-      subst (λ (x : Settings). Standing x (words l) h (x .root)) (sym es) (subst (λ (y : ℕ). Standing (settingsIn l) (words l) y (settingsIn l .root)) (sym eh) (sound-standing l s))
+      subst (λ (x : Settings). ToFind x (words l) h (x .root)) (sym es) (subst (λ (y : ℕ). ToFind (settingsIn l) (words l) y (settingsIn l .root)) (sym eh) (sound-standing l s))
 
-  own : (i : ℕ) (r : Found) → Finds st (words l) h (st .root) i r → Finds (settingsIn l) (words l) (indexOf l .height) (settingsIn l .root) i r
-  own i r f = subst (λ (y : ℕ). Finds (settingsIn l) (words l) y (settingsIn l .root) i r) eh (subst (λ (x : Settings). Finds x (words l) h (x .root) i r) es f)
+  own : (i : ℕ) (r : Found) → Located st (words l) h (st .root) i r → Located (settingsIn l) (words l) (indexOf l .height) (settingsIn l .root) i r
+  own i r f = subst (λ (y : ℕ). Located (settingsIn l) (words l) y (settingsIn l .root) i r) eh (subst (λ (x : Settings). Located x (words l) h (x .root) i r) es f)
 
   -- there is no node i
-  pub node-none : (i left : ℕ) (line : List ℕ) → Finds st (words l) h (st .root) i (Left left)
+  pub node-none : (i left : ℕ) (line : List ℕ) → Located st (words l) h (st .root) i (Left left)
       → Writes (writeNode i (length line) (indexOf l)) line (Write.Refused 14) line
   node-none i left line f =
       let past : length (framesOf (indexOf l)) ≤ i = omega (arith, frames-long (indexOf l .height) 0 (indexOf l .root), own i (Left left) f) in
       subst (λ (a : Answer (List ℕ)). Writes a line (Write.Refused 14) line) (sym (ap (written (length line)) (elem-past (framesOf (indexOf l)) i past)))
       (record { answer = refl; line = refl })
 
-  pub node-low : (i t g : ℕ) → Finds st (words l) h (st .root) i (Node t g) → i ≤ 16384
+  pub node-low : (i t g : ℕ) → Located st (words l) h (st .root) i (Node t g) → i ≤ 16384
   node-low i t g f = omega (arith, f .1 .0, node-standing .few)
 
   -- the frame of node i
-  pub node-written : (i t g : ℕ) (c : Contents) (line after : List ℕ) (r : WriteAnswer) → Finds st (words l) h (st .root) i (Node t g)
+  pub node-written : (i t g : ℕ) (c : Contents) (line after : List ℕ) (r : WriteAnswer) → Located st (words l) h (st .root) i (Node t g)
       → c ≡ contentsOf (frameAt g i (treeAt (nodes st (words l)) g t)) → Writes (fitted (length line) (lineOf (frameOf c))) line r after
       → Writes (writeNode i (length line) (indexOf l)) line r after
   node-written i t g c line after r f e w =
@@ -199,7 +199,7 @@ module _ (l : List ℕ) (s : SoundPool l) (st : Settings) (h : ℕ) (es : st ≡
       subst (λ (a : Answer (List ℕ)). Writes a line r after)
       (ap (λ (y : Frame). fitted (length line) (lineOf y)) same ∙ sym (ap (written (length line)) there)) w
 
-pub contents-few : (st : Settings) (W : List ℕ) (h s i : ℕ) (c : Contents) → Standing st W h s
+pub contents-few : (st : Settings) (W : List ℕ) (h s i : ℕ) (c : Contents) → ToFind st W h s
     → c ≡ contentsOf (frameAt h i (treeAt (nodes st W) h s)) → c .count ≤ 32
 contents-few st W h s i c p e =
     let rs = nth (nodes st W) s .rows in

@@ -9,7 +9,8 @@ use lib.ListN.{length, take, drop, getD, getElem?, length-append, take-append-dr
 use lib.Seq.{take-suc, take-all}
 use Rattle.slots_raw.specs.declared.Row.{Row}
 use Rattle.slots_raw.specs.Slots.{blank}
-use Rattle.slots.specs.Nodes.{nodes, nth, At, Rows}
+use Rattle.slots.specs.Nodes.{nodes, nth}
+use Rattle.slots.specs.Contracts.{At, Rows}
 use Rattle.slots.specs.Nodes as S
 use Rattle.model.specs.declared.Settings.{Settings}
 use Rattle.model.specs.Lists.{concat, none}
@@ -20,7 +21,7 @@ use Rattle.model.proofs.Trees.{slotsIn, leaf-bare}
 use Rattle.tree.specs.Bridge.{childOf, cells, treeAt}
 use Rattle.tree.proofs.SoundHolds.{slot-read}
 use Rattle.frame.specs.declared.Found.the-variants.{Node, Left}
-use Rattle.frame.specs.Walk.{itemAt, frameAt, Standing, Finds}
+use Rattle.frame.specs.Walk.{itemAt, frameAt, ToFind, Located}
 
 -- ONE OF SOME LISTS, joined
 
@@ -32,14 +33,14 @@ module _ {A B C : Type 0} (f : B → List C) (g : A → B) (d : A) where
 
 -- WHAT STANDS BELOW
 
-pub standing-at : (st : Settings) (W : List ℕ) (h s : ℕ) → Standing st W h s → At st W s
+pub standing-at : (st : Settings) (W : List ℕ) (h s : ℕ) → ToFind st W h s → At st W s
 standing-at st W h s p = record { held = p .held; slot = subst (λ (x : ℕ). x < st .nodes) (slot-read (nodes st W) h s) (all-head (p .low)) }
 
-pub standing-row : (st : Settings) (W : List ℕ) (h s j : ℕ) → Standing st W h s → j < length (nth (nodes st W) s .rows) → Rows st W s j 1
+pub standing-row : (st : Settings) (W : List ℕ) (h s j : ℕ) → ToFind st W h s → j < length (nth (nodes st W) s .rows) → Rows st W s j 1
 standing-row st W h s j p g = record { held = p .held; slot = standing-at st W h s p .slot; within = omega (arith, g) }
 
-pub child-standing : (st : Settings) (W : List ℕ) (h s j : ℕ) → Standing st W (suc h) s → j < length (nth (nodes st W) s .rows)
-    → Standing st W h (childOf (getD (nth (nodes st W) s .rows) j blank))
+pub child-standing : (st : Settings) (W : List ℕ) (h s j : ℕ) → ToFind st W (suc h) s → j < length (nth (nodes st W) s .rows)
+    → ToFind st W h (childOf (getD (nth (nodes st W) s .rows) j blank))
 child-standing st W h s j p g =
     let ns = nodes st W in
     let rs = nth ns s .rows in
@@ -55,8 +56,8 @@ child-standing st W h s j p g =
     }
 
 -- one level lower, in the code's numbers
-pub standing-down : (st : Settings) (W : List ℕ) (h s j c : ℕ) → Standing st W h s → 0 < h → j < length (nth (nodes st W) s .rows)
-    → c ≡ childOf (getD (nth (nodes st W) s .rows) j blank) → Standing st W (h - 1) c
+pub standing-down : (st : Settings) (W : List ℕ) (h s j c : ℕ) → ToFind st W h s → 0 < h → j < length (nth (nodes st W) s .rows)
+    → c ≡ childOf (getD (nth (nodes st W) s .rows) j blank) → ToFind st W (h - 1) c
 standing-down st W zero s j c p pos g e = absurd (omega arith)
 standing-down st W (suc h) s j c p pos g e =
     let z : suc h - 1 ≡ h = omega arith in
@@ -177,21 +178,21 @@ module _ (st : Settings) (W : List ℕ) where
   abbrev ns : List S.Node
   ns = nodes st W
 
-  pub found-here : (h s : ℕ) → Standing st W h s → Finds st W h s 0 (Node s h)
+  pub found-here : (h s : ℕ) → ToFind st W h s → Located st W h s 0 (Node s h)
   found-here h s p = (p, (omega (arith, nodes-tree ns h s), λ k. first-frame h k (treeAt ns h s)))
 
-  pub found-none : (h s i left : ℕ) → i ≡ 1 + passed ns h (nth ns s .rows) + left → Finds st W h s i (Left left)
+  pub found-none : (h s i left : ℕ) → i ≡ 1 + passed ns h (nth ns s .rows) + left → Located st W h s i (Left left)
   found-none h s i left e = omega (arith, nodes-tree ns h s)
 
   -- a node of child j, behind those of the children before it
   pub found-below : (h s i j left c t g : ℕ) → 0 < h → j < length (nth ns s .rows) → c ≡ childOf (getD (nth ns s .rows) j blank)
-      → i ≡ 1 + passed ns h (take j (nth ns s .rows)) + left → Finds st W (h - 1) c left (Node t g) → Finds st W h s i (Node t g)
+      → i ≡ 1 + passed ns h (take j (nth ns s .rows)) + left → Located st W (h - 1) c left (Node t g) → Located st W h s i (Node t g)
   found-below zero s i j left c t g pos k e n f = absurd (omega arith)
   found-below (suc h) s i j left c t g pos k e n f =
       let rs = nth ns s .rows in
       let z : suc h - 1 ≡ h = omega arith in
-      let q : Finds st W h (childOf (getD rs j blank)) left (Node t g) =
-      subst (λ (x : ℕ). Finds st W x (childOf (getD rs j blank)) left (Node t g)) z (subst (λ (y : ℕ). Finds st W (suc h - 1) y left (Node t g)) e f) in
+      let q : Located st W h (childOf (getD rs j blank)) left (Node t g) =
+      subst (λ (x : ℕ). Located st W x (childOf (getD rs j blank)) left (Node t g)) z (subst (λ (y : ℕ). Located st W (suc h - 1) y left (Node t g)) e f) in
       let next : i ≡ suc (passed ns (suc h) (take j rs) + left) = omega arith in (
         q .0,
         (
@@ -208,6 +209,6 @@ module _ (st : Settings) (W : List ℕ) where
 
   -- none of child j
   pub passed-below : (h s i j left c m : ℕ) → 0 < h → j < length (nth ns s .rows) → c ≡ childOf (getD (nth ns s .rows) j blank)
-      → i ≡ 1 + passed ns h (take j (nth ns s .rows)) + left → Finds st W (h - 1) c left (Left m) → i ≡ 1 + passed ns h (take (j + 1) (nth ns s .rows)) + m
+      → i ≡ 1 + passed ns h (take j (nth ns s .rows)) + left → Located st W (h - 1) c left (Left m) → i ≡ 1 + passed ns h (take (j + 1) (nth ns s .rows)) + m
   passed-below h s i j left c m pos k e n f =
       omega (arith, passed-more ns h (nth ns s .rows) j k, nodes-child ns h c (getD (nth ns s .rows) j blank) pos e)

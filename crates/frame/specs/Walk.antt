@@ -44,7 +44,7 @@ frameAt zero i n = leaf (n .items)
 frameAt (suc h) i n = interior (branches (suc h) (i + 1) (n .items))
 
 -- in slot s stands a tree of height h, and all of it is right, as in a sound pool
-pub record Standing (st : Settings) (W : List ℕ) (h s : ℕ) : Type 0 where
+pub record ToFind (st : Settings) (W : List ℕ) (h s : ℕ) : Type 0 where
   pub held : Held st W
   pub stands : Holds (nodes st W) h (treeAt (nodes st W) h s)
   pub low : All (λ x. x < st .nodes) (slots (suc h) (treeAt (nodes st W) h s))
@@ -54,8 +54,8 @@ pub record Standing (st : Settings) (W : List ℕ) (h s : ℕ) : Type 0 where
   pub narrow : (x : ℕ) → length (nth (nodes st W) x .rows) ≤ 32
 
 -- node i of that tree in preorder: its slot and height, or how many numbers are left where the tree has fewer
-abbrev pub Finds : Settings → List ℕ → ℕ → ℕ → ℕ → Found → Type 0
-Finds st W h s i (Node t g) =
-    Standing st W g t × ((i < length (slots (suc h) (treeAt (nodes st W) h s)))
+abbrev pub Located : Settings → List ℕ → ℕ → ℕ → ℕ → Found → Type 0
+Located st W h s i (Node t g) =
+    ToFind st W g t × ((i < length (slots (suc h) (treeAt (nodes st W) h s)))
     × ((k : ℕ) → getElem? (framesFrom h k (treeAt (nodes st W) h s)) i ≡ some (frameAt g (k + i) (treeAt (nodes st W) g t))))
-Finds st W h s i (Left m) = i ≡ length (slots (suc h) (treeAt (nodes st W) h s)) + m
+Located st W h s i (Left m) = i ≡ length (slots (suc h) (treeAt (nodes st W) h s)) + m

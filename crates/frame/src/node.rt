@@ -10,7 +10,7 @@ ghost use Rattle.tree.specs.Bridge.{treeAt};
 ghost use Rattle.tree.specs.Pool.{SoundPool, settingsIn, indexOf};
 ghost use Rattle.frame_text.specs.Contents.{contentsOf};
 ghost use Rattle.frame_text.specs.Answers.{Writes};
-ghost use Rattle.frame.specs.Walk.{Standing, itemAt, kindAt, entryFor, frameAt};
+ghost use Rattle.frame.specs.Walk.{ToFind, itemAt, kindAt, entryFor, frameAt};
 use crate::Found;
 use crate::preorder::find;
 use crate::preorder::nodes_in;
@@ -51,7 +51,7 @@ pub fn write_node(
 
 // Kind and entries of node `i` in preorder, which is in slot `s` and has the height `height`.
 fn contents_at(pool: &[u8], st: Settings, height: usize, s: usize, i: usize) -> Contents
-    requires stands { ⌜ Standing st (words (now pool)) height s ⌝ }
+    requires stands { ⌜ ToFind st (words (now pool)) height s ⌝ }
     requires low { ⌜ i ≤ 16384 ⌝ }
     ensures { λ r. ⌜ r ≡ contentsOf (frameAt height i (treeAt (nodes st (words (now (pool .entry)))) height s)) ⌝ }
 {
@@ -96,7 +96,7 @@ fn entry_for(row: Row, height: usize, child: usize) -> FrameEntry
 
 // How many nodes row `j` stands for: those of a child, and none in a leaf.
 fn nodes_under(pool: &[u8], st: Settings, height: usize, s: usize, j: usize) -> usize
-    requires stands { ⌜ Standing st (words (now pool)) height s ⌝ }
+    requires stands { ⌜ ToFind st (words (now pool)) height s ⌝ }
     requires within { ⌜ j < length (rowsAt st (words (now pool)) s) ⌝ }
     ensures { λ r.
         ⌜ r ≡ nodesIn height (itemAt (nodes st (words (now (pool .entry)))) height

@@ -5,15 +5,15 @@ ghost use Rattle.words.specs.Words.{words};
 ghost use Rattle.slots.specs.Nodes.{nodes};
 ghost use Rattle.model.specs.Frame.{nodesIn};
 ghost use Rattle.tree.specs.Bridge.{treeAt};
-ghost use Rattle.frame.specs.Walk.{Standing, Finds};
+ghost use Rattle.frame.specs.Walk.{ToFind, Located};
 use crate::Found;
 use model::Settings;
 use tree_node::child_at;
 
 // Goes through the tree of height `height` in slot `s` in preorder, up to node `i`.
 pub fn find(pool: &[u8], st: Settings, height: usize, s: usize, i: usize) -> Found
-    requires { ⌜ Standing st (words (now pool)) height s ⌝ }
-    ensures { λ r. ⌜ Finds st (words (now (pool .entry))) height s i r ⌝ }
+    requires { ⌜ ToFind st (words (now pool)) height s ⌝ }
+    ensures { λ r. ⌜ Located st (words (now (pool .entry))) height s i r ⌝ }
 {
     if i == 0 {
         return Found::Node(s, height);
@@ -37,7 +37,7 @@ pub fn find(pool: &[u8], st: Settings, height: usize, s: usize, i: usize) -> Fou
 
 // How many nodes the tree of height `height` in slot `s` has.
 pub fn nodes_in(pool: &[u8], st: Settings, height: usize, s: usize) -> usize
-    requires { ⌜ Standing st (words (now pool)) height s ⌝ }
+    requires { ⌜ ToFind st (words (now pool)) height s ⌝ }
     ensures { λ r. ⌜ r ≡ nodesIn (suc height) (treeAt (nodes st (words (now (pool .entry)))) height s) ⌝ }
 {
     let mut total = 1;

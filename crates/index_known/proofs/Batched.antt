@@ -23,7 +23,7 @@ use Rattle.tree_spare.specs.Spared.{Spared}
 use Rattle.batch_root.specs.declared.Root.{Root}
 use Rattle.batch_root.specs.Roots.{indexAt}
 use Rattle.batch.specs.declared.Ran.{Ran}
-use Rattle.batch.specs.Batch.{Accepted, Changed}
+use Rattle.batch.specs.Batch.{ToBatch, Changed}
 use Rattle.index_promise.specs.declared.BatchAnswer.the-variants as Batch
 use Rattle.index_promise.specs.Promise.{holds, Left, _leaving_, leaves, Batches}
 use Rattle.index_refuse.specs.Refusals.{Refuses}
@@ -63,7 +63,7 @@ module _ {l : List ℕ} {k : Known} (w : Knows l k) where
         passed : refusal st c (indexOf l) ≡ 0
         passed = sym refusal-is ∙ none
 
-        own : Accepted st (words l) (record { height = k .height; spare = k .spare }) c
+        own : ToBatch st (words l) (record { height = k .height; spare = k .spare }) c
         own =
             record {
               held = sound-held l (w .sound);
@@ -74,8 +74,8 @@ module _ {l : List ℕ} {k : Known} (w : Knows l k) where
               accepted = rw same passed;
             }
 
-        pub store-accepted : Accepted (k .settings) (words l) (record { height = k .height; spare = k .spare }) c
-        store-accepted = subst (λ (u : Settings). Accepted u (words l) (record { height = k .height; spare = k .spare }) c) (sym (w .settings)) own
+        pub store-accepted : ToBatch (k .settings) (words l) (record { height = k .height; spare = k .spare }) c
+        store-accepted = subst (λ (u : Settings). ToBatch u (words l) (record { height = k .height; spare = k .spare }) c) (sym (w .settings)) own
 
         module _ (m : List ℕ) (ran : Ran) (d : Changed (k .settings) (words l) (words m) (k .height) c ran) (len : length m ≡ length l) (bytes : Bytes m) where
           did : Changed st (words l) (words m) (k .height) c ran

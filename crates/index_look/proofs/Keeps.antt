@@ -19,7 +19,7 @@ use Rattle.survey.specs.Surveyed.{Surveyed}
 use Rattle.look_output.specs.declared.Listed.{Listed}
 use Rattle.look_output.specs.declared.Scanned as Told
 use Rattle.look_output.specs.Output.{roomIn}
-use Rattle.look.specs.Calls.{InPool, Writes}
+use Rattle.look.specs.Calls.{InPool, Written}
 use Rattle.frame_text.specs.declared.WriteAnswer.{WriteAnswer}
 use Rattle.frame_text.specs.declared.WriteAnswer.the-variants as Write
 use Rattle.frame_text.specs.Answers.{lengthIn, lineAfter}
@@ -55,7 +55,7 @@ totals-told l t s e = holds s (ap done e)
 
 -- GET
 
-told : (g : Listing) (r : Listed) (out out′ : List ℕ) → Writes g out (r .written) (r .more) out′
+told : (g : Listing) (r : Listed) (out out′ : List ℕ) → Written g out (r .written) (r .more) out′
     → (done r leaving out′) ≡ (done (listed g) leaving written out g)
 told g r out out′ w =
     let same : r ≡ listed g =
@@ -73,13 +73,13 @@ module _ (l ks out : List ℕ) where
     pub get-descends : descend ks ≡ true → Gets l ks out (Get.Refused 5) out
     get-descends d = holds s (ap (λ b. due (cond b 5 0)) (sym d))
 
-    pub get-told : (g : Listed) (out′ : List ℕ) → descend ks ≡ false → Writes (getAll ks (roomIn out) (indexOf l)) out (g .written) (g .more) out′
+    pub get-told : (g : Listed) (out′ : List ℕ) → descend ks ≡ false → Written (getAll ks (roomIn out) (indexOf l)) out (g .written) (g .more) out′
         → Gets l ks out (Get.Done g) out′
     get-told g out′ d w = holds s (told (getAll ks (roomIn out) (indexOf l)) g out out′ w ∙ ap (λ b. due (cond b 5 0)) (sym d))
 
 -- SCAN
 
-swept-told : (s : Scanned) (r : Told.Scanned) (out out′ : List ℕ) → Writes (s .listed) out (r .written) (r .more) out′ → r .opened ≡ s .opened
+swept-told : (s : Scanned) (r : Told.Scanned) (out out′ : List ℕ) → Written (s .listed) out (r .written) (r .more) out′ → r .opened ≡ s .opened
     → (done r leaving out′) ≡ (done (swept s) leaving written out (s .listed))
 swept-told s r out out′ w o =
     let same : r ≡ swept s =
@@ -92,7 +92,7 @@ module _ (l : List ℕ) (q : Request) (out : List ℕ) where
   pub scan-unsound : (SoundPool l → ⊥) → Scans l q out (Scan.Refused 2) out
   scan-unsound n = fails n refl
 
-  pub scan-told : (t : Told.Scanned) (out′ : List ℕ) → SoundPool l → Writes (scan q (roomIn out) (indexOf l) .listed) out (t .written) (t .more) out′
+  pub scan-told : (t : Told.Scanned) (out′ : List ℕ) → SoundPool l → Written (scan q (roomIn out) (indexOf l) .listed) out (t .written) (t .more) out′
       → t .opened ≡ scan q (roomIn out) (indexOf l) .opened → Scans l q out (Scan.Done t) out′
   scan-told t out′ s w o = holds s (swept-told (scan q (roomIn out) (indexOf l)) t out out′ w o)
 

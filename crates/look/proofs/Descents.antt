@@ -38,13 +38,13 @@ use Rattle.tree.proofs.Keys.{rows-ascend, entries-from}
 use Rattle.tree.proofs.SoundHolds.{slot-read}
 use Rattle.look_output.specs.Output.{Page, enlistAll}
 use Rattle.tree_node.specs.Ask.{childFor, Chosen}
-use Rattle.look.specs.Lookup.{Grown, Leads}
+use Rattle.look.specs.Lookup.{ToDescend, Led}
 use Rattle.look_output.proofs.Outputs.{enlist-append}
 use Rattle.tree.proofs.Children.{at-map, held-at, child-held}
 
 -- THE KEYS OF ROWS
 
-module _ (st : Settings) (W : List ℕ) (h s : ℕ) (k : Grown st W h s) where
+module _ (st : Settings) (W : List ℕ) (h s : ℕ) (k : ToDescend st W h s) where
   rows-are : rowsAt st W s ≡ map (rowFor h) (treeAt (nodes st W) h s .items)
   rows-are = ap (λ (t : ℕ). rowsAt st W t) (sym (slot-read (nodes st W) h s)) ∙ ap (λ (n : S.Node). n .rows) (all-head (k .tree))
 
@@ -95,7 +95,7 @@ sorted-at h (x ∷ xs) zero z g s = ordered-left (entries h x) (flat h xs) s
 sorted-at h (x ∷ xs) (suc i) z g s = sorted-at h xs i z (le-of-suc-le-suc g) (ordered-right (entries h x) (flat h xs) s)
 
 module _ (st : Settings) (W : List ℕ) (key : ℕ) where
-  module _ (h s : ℕ) (g : Grown st W (suc h) s) where
+  module _ (h s : ℕ) (g : ToDescend st W (suc h) s) where
     abbrev kid : Row → Tree h
     kid r = treeAt (nodes st W) h (childOf r)
 
@@ -104,7 +104,7 @@ module _ (st : Settings) (W : List ℕ) (key : ℕ) where
 
     -- the tree of the child that the key goes to
     lower : (i c : ℕ) → Chosen (rowsAt st W s) 0 key i → c ≡ childOf (getD (rowsAt st W s) i blank)
-        → Grown st W h c × (held key (entries (suc h) (treeAt (nodes st W) h c)) ≡ held key (entries (suc (suc h)) (treeAt (nodes st W) (suc h) s)))
+        → ToDescend st W h c × (held key (entries (suc h) (treeAt (nodes st W) h c)) ≡ held key (entries (suc (suc h)) (treeAt (nodes st W) (suc h) s)))
     lower i c q e =
         let here : getD kids i (kid blank) ≡ treeAt (nodes st W) h c =
         at-map kid (rowsAt st W s) i blank (kid blank) (q .within) ∙ ap (treeAt (nodes st W) h) (sym e) in
@@ -123,17 +123,17 @@ module _ (st : Settings) (W : List ℕ) (key : ℕ) where
         )
 
   -- the same for a height that is not 0
-  pub descend : (h s i c : ℕ) → 0 < h → Grown st W h s → Chosen (rowsAt st W s) 0 key i → c ≡ childOf (getD (rowsAt st W s) i blank)
-      → Grown st W (h - 1) c × (held key (entries (suc (h - 1)) (treeAt (nodes st W) (h - 1) c)) ≡ held key (entries (suc h) (treeAt (nodes st W) h s)))
+  pub descend : (h s i c : ℕ) → 0 < h → ToDescend st W h s → Chosen (rowsAt st W s) 0 key i → c ≡ childOf (getD (rowsAt st W s) i blank)
+      → ToDescend st W (h - 1) c × (held key (entries (suc (h - 1)) (treeAt (nodes st W) (h - 1) c)) ≡ held key (entries (suc h) (treeAt (nodes st W) h s)))
   descend zero s i c p g q e = absurd (omega arith)
   descend (suc h) s i c p g q e =
       let down : h ≡ suc h - 1 = omega arith in
       subst (λ (n : ℕ).
-      Grown st W n c × (held key (entries (suc n) (treeAt (nodes st W) n c)) ≡ held key (entries (suc (suc h)) (treeAt (nodes st W) (suc h) s)))) down
+      ToDescend st W n c × (held key (entries (suc n) (treeAt (nodes st W) n c)) ≡ held key (entries (suc (suc h)) (treeAt (nodes st W) (suc h) s)))) down
       (lower h s g i c q e)
 
-  pub arrive : (height h s : ℕ) → h ≤ 0 → Grown st W h s
-      → held key (entries (suc h) (treeAt (nodes st W) h s)) ≡ held key (entries (suc height) (treeAt (nodes st W) height (st .root))) → Leads st W height key (st .root) s
+  pub arrive : (height h s : ℕ) → h ≤ 0 → ToDescend st W h s
+      → held key (entries (suc h) (treeAt (nodes st W) h s)) ≡ held key (entries (suc height) (treeAt (nodes st W) height (st .root))) → Led st W height key (st .root) s
   arrive height zero s p g e = record { grown = g; same = e }
   arrive height (suc h) s p g e = absurd (omega arith)
 
@@ -169,7 +169,7 @@ present-found k rs = ap (λ (es : List Entry). present k (first k es)) (entries-
         ∙ hit (eqb (keyAt rs (below k rs)) k) refl
     by false e = ap (λ (l : List Row). present k (first k (map entryOf l))) (drop-of-length-le rs (ltb-false (below k rs) (length rs) e))
 
-module _ (st : Settings) (W : List ℕ) (height key leaf : ℕ) (lead : Leads st W height key (st .root) leaf) where
+module _ (st : Settings) (W : List ℕ) (height key leaf : ℕ) (lead : Led st W height key (st .root) leaf) where
   pub found-listed : (r f : Found) → Sought (rowsAt st W leaf) key r → r ≡ f
       → listFound (rowsAt st W leaf) f ≡ present key (held key (entries (suc height) (treeAt (nodes st W) height (st .root))))
   found-listed r f q e =

@@ -20,7 +20,7 @@ use Rattle.model.specs.Sound.{Rooted, Sound}
 use Rattle.model.proofs.Lists.{all-head}
 use Rattle.model.proofs.Scans.{openings-few, entering-thin, openings-law}
 use Rattle.tree.specs.Bridge.{nodeFor, treeAt}
-use Rattle.tree.specs.Sums.{sumRows, Sums, Weighs}
+use Rattle.tree.specs.Sums.{sumRows, Sums, ToWeigh}
 use Rattle.tree.specs.Pool.{settingsIn, nodesIn, indexOf}
 use Rattle.tree.proofs.Sums.{rows-total, sums-fit}
 use Rattle.tree.proofs.Few.{used-few, entries-most}
@@ -30,8 +30,8 @@ use Rattle.look_output.specs.declared.Listed.{Listed}
 use Rattle.look_output.specs.declared.Scanned.{Scanned}
 use Rattle.look_output.specs.Output.{roomIn, page, enlistAll, freshPage}
 use Rattle.look_scan.specs.Walk.{Walk, walkAt, visitAll, ToScan}
-use Rattle.look.specs.Lookup.{Grown}
-use Rattle.look.specs.Calls.{InPool, Writes}
+use Rattle.look.specs.Lookup.{ToDescend}
+use Rattle.look.specs.Calls.{InPool, Written}
 use Rattle.look_output.proofs.Outputs.{Shows, shows-none, shows-all}
 use Rattle.look_scan.proofs.Visits.{visits-show, visits-count}
 
@@ -56,9 +56,9 @@ module _ (l : List ℕ) (st : Settings) (height : ℕ) (k : InPool l st height) 
   root-few : length (entriesOf (indexOf l)) < 1048576
   root-few = omega (arith, entries-most (settingsIn l) (indexOf l) sound)
 
-  pub pool-weighs : Weighs st (words l) height (st .root)
+  pub pool-weighs : ToWeigh st (words l) height (st .root)
   pool-weighs =
-      own (λ s h. Weighs s (words l) h (s .root))
+      own (λ s h. ToWeigh s (words l) h (s .root))
       (record {
         held = sound-held l (k .sound);
         slot = omega (arith, k .sound .settings .many);
@@ -77,9 +77,9 @@ module _ (l : List ℕ) (st : Settings) (height : ℕ) (k : InPool l st height) 
   pool-openings : (q : Request) → openings q height (treeAt (nodes st (words l)) height (st .root)) ≡ openings q (indexOf l .height) (indexOf l .root)
   pool-openings q = own (λ s h. openings q h (treeAt (nodes s (words l)) h (s .root)) ≡ openings q (indexOf l .height) (indexOf l .root)) refl
 
-  pub pool-grown : Grown st (words l) height (st .root)
+  pub pool-grown : ToDescend st (words l) height (st .root)
   pool-grown =
-      own (λ s h. Grown s (words l) h (s .root))
+      own (λ s h. ToDescend s (words l) h (s .root))
       (record {
         pool = sound-held l (k .sound);
         tree = sound-holds-index l (k .sound) .tree;
@@ -111,12 +111,12 @@ module _ (l : List ℕ) (st : Settings) (height : ℕ) (k : InPool l st height) 
 
   -- WHAT WAS LISTED AND COUNTED
 
-  shown : (room : ℕ) (out o : List ℕ) (es : List Entry) (r : Listed) → Shows room out es (page o r) → Writes (listing room es) out (r .written) (r .more) o
+  shown : (room : ℕ) (out o : List ℕ) (es : List Entry) (r : Listed) → Shows room out es (page o r) → Written (listing room es) out (r .written) (r .more) o
   shown room out o es r s = record { count = s .written; due = s .more; bytes = s .bytes }
 
   pub pool-got : (keys out o : List ℕ) (r : Listed)
       → page o r ≡ enlistAll (length out / 24) (found keys (entries (suc height) (treeAt (nodes st (words l)) height (st .root)))) (freshPage out)
-      → Writes (getAll keys (roomIn out) (indexOf l)) out (r .written) (r .more) o
+      → Written (getAll keys (roomIn out) (indexOf l)) out (r .written) (r .more) o
   pool-got keys out o r e =
       let room : ℕ = length out / 24 in
       let is : page o r ≡ enlistAll room (found keys (entriesOf (indexOf l))) (freshPage out) =
@@ -130,7 +130,7 @@ module _ (l : List ℕ) (st : Settings) (height : ℕ) (k : InPool l st height) 
     walked : walkAt o r ≡ visitAll (length out / 24) (openings q (indexOf l .height) (indexOf l .root)) (walkAt out start)
     walked = e ∙ ap (λ (ns : List (List Entry)). visitAll (length out / 24) ns (walkAt out start)) (pool-openings q)
 
-    pub pool-scanned : Writes (M.scan q (roomIn out) (indexOf l) .listed) out (r .written) (r .more) o
+    pub pool-scanned : Written (M.scan q (roomIn out) (indexOf l) .listed) out (r .written) (r .more) o
     pool-scanned =
         let room : ℕ = length out / 24 in
         let law : concat (openings q (indexOf l .height) (indexOf l .root)) ≡ dueIn q (entriesOf (indexOf l)) =

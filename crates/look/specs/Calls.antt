@@ -23,7 +23,7 @@ abbrev pub requestFor : Bound → Bound → Direction → Sift → Request
 requestFor start end direction sift = record { start = start; end = end; direction = direction; sift = sift }
 
 -- a listing stands in an output that was out₀: its entries in front, and every byte behind them as it was
-pub record Writes (g : Listing) (out₀ : List ℕ) (written : ℕ) (more : Bool) (out : List ℕ) : Type 0 where
+pub record Written (g : Listing) (out₀ : List ℕ) (written : ℕ) (more : Bool) (out : List ℕ) : Type 0 where
   pub count : written ≡ length (g .written)
   pub due : more ≡ g .more
   pub bytes : out ≡ outputOf (g .written) out₀

@@ -12,7 +12,7 @@ use Rattle.model.specs.Sound.{Whole, Sorted}
 use Rattle.tree.specs.Bridge.{Holds, treeAt}
 
 -- the tree of height h in slot s can be searched: the nodes hold it, an interior has a child, no node below is empty, and the keys ascend
-pub record Grown (st : Settings) (W : List ℕ) (h s : ℕ) : Type 0 where
+pub record ToDescend (st : Settings) (W : List ℕ) (h s : ℕ) : Type 0 where
   pub pool : Held st W
   pub tree : Holds (nodes st W) h (treeAt (nodes st W) h s)
   pub some : h ≢ 0 → 0 < len (treeAt (nodes st W) h s)
@@ -20,6 +20,6 @@ pub record Grown (st : Settings) (W : List ℕ) (h s : ℕ) : Type 0 where
   pub sorted : Sorted (entries (suc h) (treeAt (nodes st W) h s))
 
 -- from the tree in slot s a key leads to a leaf: it is held there exactly as it is held in the whole tree
-pub record Leads (st : Settings) (W : List ℕ) (h key s leaf : ℕ) : Type 0 where
-  pub grown : Grown st W zero leaf
+pub record Led (st : Settings) (W : List ℕ) (h key s leaf : ℕ) : Type 0 where
+  pub grown : ToDescend st W zero leaf
   pub same : held key (entries 1 (treeAt (nodes st W) zero leaf)) ≡ held key (entries (suc h) (treeAt (nodes st W) h s))

@@ -6,7 +6,7 @@ ghost use Rattle.model.specs.Look.{getAll};
 ghost use Rattle.model.specs.Look as look;
 ghost use Rattle.tree.specs.Pool.{indexOf};
 ghost use Rattle.look_output.specs.Output.{roomIn};
-ghost use Rattle.look.specs.Calls.{InPool, Writes, requestFor};
+ghost use Rattle.look.specs.Calls.{InPool, Written, requestFor};
 use crate::lookup::get_keys;
 use look_output::Listed;
 use look_output::Scanned;
@@ -30,7 +30,7 @@ pub fn totals(pool: &[u8], st: Settings, height: usize) -> Totals
 pub fn get(pool: &[u8], st: Settings, height: usize, keys: &[u64], out: &mut [u8]) -> Listed
     requires { ⌜ InPool (now pool) st height ⌝ }
     ensures { λ r.
-        ⌜ Writes (getAll (now (keys .entry)) (roomIn (now (out .entry))) (indexOf (now (pool .entry)))) (now (out .entry)) (r .written)
+        ⌜ Written (getAll (now (keys .entry)) (roomIn (now (out .entry))) (indexOf (now (pool .entry)))) (now (out .entry)) (r .written)
         (r .more) (now (out .exit)) ⌝ }
 {
     let room = out.len() / 24;
@@ -50,7 +50,7 @@ pub fn scan(
 ) -> Scanned
     requires { ⌜ InPool (now pool) st height ⌝ }
     ensures written { λ r.
-        ⌜ Writes (look.scan (requestFor start end direction sift) (roomIn (now (out .entry))) (indexOf (now (pool .entry))) .listed)
+        ⌜ Written (look.scan (requestFor start end direction sift) (roomIn (now (out .entry))) (indexOf (now (pool .entry))) .listed)
         (now (out .entry)) (r .written) (r .more) (now (out .exit)) ⌝ }
     ensures opened { λ r.
         ⌜ r .opened ≡ look.scan (requestFor start end direction sift) (roomIn (now (out .entry))) (indexOf (now (pool .entry))) .opened ⌝ }

@@ -11,7 +11,7 @@ ghost use Rattle.model.specs.Plain.{held};
 ghost use Rattle.model.specs.Look.{found, present};
 ghost use Rattle.tree.specs.Bridge.{treeAt};
 ghost use Rattle.look_output.specs.Output.{page, enlistAll, freshPage};
-ghost use Rattle.look.specs.Lookup.{Grown, Leads};
+ghost use Rattle.look.specs.Lookup.{ToDescend, Led};
 use look_output::Listed;
 use look_output::list_row;
 use model::Settings;
@@ -28,7 +28,7 @@ pub fn get_keys(
     out: &mut [u8],
     room: usize,
 ) -> Listed
-    requires grown { ⌜ Grown st (words (now pool)) height (st .root) ⌝ }
+    requires grown { ⌜ ToDescend st (words (now pool)) height (st .root) ⌝ }
     requires space { ⌜ 24 * room ≤ length (now out) ⌝ }
     ensures { λ r.
         ⌜ page (now (out .exit)) r ≡ enlistAll room
@@ -58,7 +58,7 @@ fn get_key(
     room: usize,
     l: Listed,
 ) -> Listed
-    requires grown { ⌜ Grown st (words (now pool)) height (st .root) ⌝ }
+    requires grown { ⌜ ToDescend st (words (now pool)) height (st .root) ⌝ }
     requires space { ⌜ 24 * room ≤ length (now out) ⌝ }
     requires unfilled { ⌜ l .more ≡ false ⌝ }
     ensures { λ r.
@@ -79,8 +79,8 @@ fn get_key(
 
 // The leaf where a key stands, if it is present: down from the root, whose height falls to 0.
 fn leaf_for(pool: &[u8], st: Settings, height: usize, key: u64) -> usize
-    requires { ⌜ Grown st (words (now pool)) height (st .root) ⌝ }
-    ensures { λ r. ⌜ Leads st (words (now (pool .entry))) height key (st .root) r ⌝ }
+    requires { ⌜ ToDescend st (words (now pool)) height (st .root) ⌝ }
+    ensures { λ r. ⌜ Led st (words (now (pool .entry))) height key (st .root) r ⌝ }
 {
     let mut s = st.root;
     let mut h = height;

@@ -11,8 +11,10 @@ use lib.Seq.{getD-set-same, getD-set-other, set-getD, set-set, take-length, drop
 use Rattle.model.specs.declared.Settings.{Settings}
 use Rattle.slots_raw.specs.declared.Row.{Row}
 use Rattle.slots_raw.specs.Over.{over, part}
-use Rattle.slots_raw.specs.Slots.{blank, chunks, width, Raw, rawOf, slots, rawAt, putCells, putHead, Wrote}
-use Rattle.slots.specs.Nodes.{Node, unused, nodeOf, nodes, nth, rowsAt, putRows, putKind, pad, rawFor, Canon, Held, Now, putIn, without, put2, withRows}
+use Rattle.slots_raw.specs.Slots.{blank, chunks, width, Raw, rawOf, slots, rawAt, putCells, putHead}
+use Rattle.slots_raw.specs.Contracts.{Wrote}
+use Rattle.slots.specs.Nodes.{Node, unused, nodeOf, nodes, nth, rowsAt, putRows, putKind, pad, rawFor, Canon, Held, putIn, without, put2, withRows}
+use Rattle.slots.specs.Contracts.{Now}
 use Rattle.slots_raw.proofs.Over.{map-set}
 use Rattle.slots_raw.proofs.Chunks.{length-chunks}
 use Rattle.slots.proofs.Pads.{take-pad, part-pad, length-putIn, length-without, opening, opened, closing, closed, replaced}

@@ -10,7 +10,8 @@ use lib.Seq.{set-set, take-length, drop-length}
 use Rattle.model.specs.declared.Settings.{Settings}
 use Rattle.slots_raw.specs.declared.Row.{Row}
 use Rattle.slots_raw.specs.Over.{part}
-use Rattle.slots.specs.Nodes.{Node, unused, nodes, nth, rowsAt, putRows, putKind, Now, putIn, without, put2, withRows, splitNodes, backNodes, forwardNodes, joinNodes}
+use Rattle.slots.specs.Nodes.{Node, unused, nodes, nth, rowsAt, putRows, putKind, putIn, without, put2, withRows, splitNodes, backNodes, forwardNodes, joinNodes}
+use Rattle.slots.specs.Contracts.{Now}
 use Rattle.slots.proofs.Pads.{last-part}
 use Rattle.slots.proofs.Nodes.{length-nodes, nth-rows, nth-kind, nth-same, nth-put, rows-rows, at-end, first-out, last-out, first-part}
 

@@ -6,8 +6,10 @@ use lib.ListN.{length, replicate}
 use Rattle.model.specs.declared.Settings.{Settings}
 use Rattle.slots_raw.specs.declared.Row.{Row}
 use Rattle.slots_raw.specs.Over.{over, part}
-use Rattle.slots_raw.specs.Slots.{Raw, rawAt, withCells, withHead, putCells, putHead, blank, Wrote}
-use Rattle.slots.specs.Nodes.{nodes, nth, rowsAt, putRows, Held, Now, putIn, without}
+use Rattle.slots_raw.specs.Slots.{Raw, rawAt, withCells, withHead, putCells, putHead, blank}
+use Rattle.slots_raw.specs.Contracts.{Wrote}
+use Rattle.slots.specs.Nodes.{nodes, nth, rowsAt, putRows, Held, putIn, without}
+use Rattle.slots.specs.Contracts.{Now}
 use Rattle.slots.proofs.Nodes.{again, opened-now, closed-now}
 
 module _ (st : Settings) (W₀ W₁ W₂ W : List ℕ) (s k n : ℕ) (h : s < st .nodes) (held : Held st W₀) (ek : k ≡ nth (nodes st W₀) s .kind)

@@ -2,7 +2,8 @@
 ghost use mathlib.Core.Path.{_≡_};
 ghost use Prim.Native.Nat.{_≤_};
 ghost use Rattle.words.specs.Words.{words};
-ghost use Rattle.slots.specs.Nodes.{Held, Rows, nodes, rowsAt};
+ghost use Rattle.slots.specs.Nodes.{Held, nodes, rowsAt};
+ghost use Rattle.slots.specs.Contracts.{Rows};
 ghost use Rattle.slots_find.specs.Search.{keyAt, Sorted, Sought, Below, Lowest};
 use model::Settings;
 use slots::UNUSED;

@@ -11,7 +11,8 @@ use Rattle.model.specs.declared.PoolSettings.{PoolSettings}
 use Rattle.model.specs.declared.Settings.{Settings}
 use Rattle.model.specs.Sound.{handed, InLimits}
 use Rattle.slots_raw.specs.Slots.{width, headLen, headIn, Shape}
-use Rattle.slots.specs.Nodes.{Node, unused, nodes, nth, Held, Now, putKind}
+use Rattle.slots.specs.Nodes.{Node, unused, nodes, nth, Held, putKind}
+use Rattle.slots.specs.Contracts.{Now}
 use Rattle.slots_pool.specs.Header.{layoutNumber, headerOf}
 use Rattle.slots_pool.specs.Image.{image, newNodes}
 use Rattle.slots_raw.proofs.Over.{drop-replicate}

@@ -13,7 +13,8 @@ use Rattle.model.specs.declared.Settings.{Settings}
 use Rattle.model.proofs.Lists.{both-left, both-right}
 use Rattle.slots_raw.specs.Over.{part}
 use Rattle.model.specs.Answer.{Tells}
-use Rattle.slots_raw.specs.Slots.{rowsOf, blank, width, rawOf, rawAt, Shape, Base}
+use Rattle.slots_raw.specs.Slots.{rowsOf, blank, width, rawOf, rawAt, Shape}
+use Rattle.slots_raw.specs.Contracts.{Base}
 use Rattle.slots.specs.Nodes.{unused, pad, rawFor}
 use Rattle.slots_pool.specs.Image.{flatRows, block}
 use Rattle.slots_raw.proofs.Over.{length-part}

@@ -11,7 +11,8 @@ use Rattle.words.proofs.Laws.{stores, stores-sets}
 use Rattle.model.specs.declared.Settings.{Settings}
 use Rattle.slots_raw.specs.declared.Row.{Row}
 use Rattle.slots_raw.specs.Over.{over, part}
-use Rattle.slots_raw.specs.Slots.{chunks, rowOf, rowsOf, blank, Raw, rawOf, width, headLen, slots, rawAt, withCells, withHead, putCells, putHead, Shape, Cells, Base, Wrote}
+use Rattle.slots_raw.specs.Slots.{chunks, rowOf, rowsOf, blank, Raw, rawOf, width, headLen, slots, rawAt, withCells, withHead, putCells, putHead, Shape}
+use Rattle.slots_raw.specs.Contracts.{Cells, Base, Wrote}
 use Rattle.slots_raw.proofs.Over.{length-part, length-over, drop-over, take-over, getD-over, getD-part, part-inside, part-drop, map-over, map-part, map-set}
 use Rattle.slots_raw.proofs.Chunks.{chunks-over, chunks-part, getD-chunks, piece-over, piece-room}
 

@@ -8,7 +8,8 @@ ghost use lib.ListN.{getD, replicate};
 ghost use Rattle.words.specs.Words.{words};
 ghost use Rattle.slots_raw.specs.Over.{over, part};
 ghost use Rattle.slots_raw.specs.Slots as Slots;
-ghost use Rattle.slots_raw.specs.Slots.{Shape, Cells, Base, Wrote, rawAt, putCells, putHead, blank};
+ghost use Rattle.slots_raw.specs.Slots.{Shape, rawAt, putCells, putHead, blank};
+ghost use Rattle.slots_raw.specs.Contracts.{Cells, Base, Wrote};
 use model::Settings;
 
 // How many words the header has, the head of a slot (its kind and its count), and a row.

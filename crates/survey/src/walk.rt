@@ -12,7 +12,7 @@ ghost use Rattle.slots_raw.specs.Slots.{Shape};
 ghost use Rattle.slots.specs.Nodes.{nodes, rowsAt};
 ghost use Rattle.model.specs.Answer.{Tells};
 ghost use Rattle.tree.specs.Pool.{firstChild, heightAt};
-ghost use Rattle.survey_node.specs.Checked.{last, There, Checked, leastRoot, Known, SoundTree};
+ghost use Rattle.survey_node.specs.Checked.{last, There, Checked, leastRoot, ToWalk, SoundTree};
 use model::Settings;
 use survey_node::Part;
 use survey_node::begin;
@@ -57,7 +57,7 @@ fn first_child(pool: &[u8], st: Settings, s: usize) -> usize
 // Whether the tree is that of a sound pool, where `used` nodes are in use.
 pub fn tree_right(pool: &[u8], st: Settings, height: usize, used: usize) -> bool
     requires shape { ⌜ Shape st (words (now pool)) ⌝ }
-    requires known { ⌜ Known st (words (now pool)) height used ⌝ }
+    requires known { ⌜ ToWalk st (words (now pool)) height used ⌝ }
     ensures { λ r. ⌜ Tells r (SoundTree st (words (now (pool .entry)))) ⌝ }
 {
     if 7 < height {

@@ -18,7 +18,7 @@ use Rattle.model.specs.Sound.{Whole}
 use Rattle.model.specs.Contracts.{flat}
 use Rattle.model.proofs.Trees.{slotsIn, separator-ends, zero-plus, plus-zero, plus-assoc}
 use Rattle.tree.specs.Bridge.{entryOf, childOf, treeAt}
-use Rattle.tree.specs.Sums.{Addable}
+use Rattle.tree.specs.Sums.{ToAdd}
 use Rattle.tree.proofs.Bounds.{Small, Slight, small-none, small-more, small-addable, entry-slight, child-slight}
 use Rattle.survey_node.specs.declared.Part.{Part}
 use Rattle.survey_node.specs.Checked.{Last, last, after, Head, Tail, Right, Checked, EntryRight, RowRight, begun, grown}
@@ -136,7 +136,7 @@ module _ (st : Settings) (W : List ℕ) (h : ℕ) (rs : List Row) where
           }
 
       -- and its totals can be added
-      pub going-addable : i < 32 → RightRow st W h row (last met (part .last)) (part .left) → Addable (part .totals) (total h (itemAt ns h row))
+      pub going-addable : i < 32 → RightRow st W h row (last met (part .last)) (part .left) → ToAdd (part .totals) (total h (itemAt ns h row))
       going-addable few right =
           small-addable (part .totals) (total h (itemAt ns h row)) i few (g .small) (row-slight st W h row (last met (part .last)) (part .left) right)
 
@@ -219,7 +219,7 @@ module _ (st : Settings) (W : List ℕ) (h : ℕ) (rs : List Row) (p : Last) (le
     right : RightRow st W (suc h) turn-row turn-last (part .left)
     right = child-row st W h turn-row turn-last (part .left) child chk t
 
-    pub turn-addable : i < 32 → Addable (part .totals) (child .totals)
+    pub turn-addable : i < 32 → ToAdd (part .totals) (child .totals)
     turn-addable few = rw (chk .totals (t .ok)) (going-addable st W (suc h) rs p left i met part g lt few right)
 
     pub turn-on : Going st W (suc h) rs p left (i + 1) true (grown (part .totals) (turn-row .key) (child .totals) (child .left))

@@ -116,7 +116,7 @@ leastRoot zero = 0
 leastRoot (suc h) = 2
 
 -- what the walk is handed: the height down the left edge, and how many nodes are in use
-pub record Known (st : Settings) (W : List ℕ) (h n : ℕ) : Type 0 where
+pub record ToWalk (st : Settings) (W : List ℕ) (h n : ℕ) : Type 0 where
   pub height : h ≡ heightAt (nodes st W) 8 (st .root)
   pub used : n + length (unusedOf (nodes st W)) ≡ st .nodes
 

@@ -8,7 +8,7 @@ ghost use Rattle.words.specs.Words.{words};
 ghost use Rattle.slots_raw.specs.Slots.{Shape};
 ghost use Rattle.slots.specs.Nodes.{nodes, rowsAt};
 ghost use Rattle.model.specs.Answer.{Tells};
-ghost use Rattle.tree.specs.Sums.{Addable};
+ghost use Rattle.tree.specs.Sums.{ToAdd};
 ghost use Rattle.survey_node.specs.Checked.{last, There, EachThere, Head, Opened, Checked, begun, grown, EntryRight, RowRight};
 use model::Settings;
 use model::Totals;
@@ -165,7 +165,7 @@ pub fn begin(key: u64, left: usize) -> Part
 
 // What it has found after another row, whose key and totals are given.
 pub fn grow(part: Part, key: u64, t: Totals, left: usize) -> Part
-    requires { ⌜ Addable (part .totals) t ⌝ }
+    requires { ⌜ ToAdd (part .totals) t ⌝ }
     ensures { λ r. ⌜ r ≡ grown (part .totals) key t left ⌝ }
 {
     Part {

@@ -12,7 +12,7 @@ use Rattle.model.specs.Tree.{Tree, entries, total, isLive, adds, plus, noTotals
 use Rattle.model.specs.Sound.{Fits}
 use Rattle.model.proofs.Trees.{total-list, sizes-few}
 use Rattle.tree.specs.Bridge.{childTotals}
-use Rattle.tree.specs.Sums.{Addable}
+use Rattle.tree.specs.Sums.{ToAdd}
 use Rattle.tree.proofs.ReadOff.{total-count}
 
 -- the totals of one row: of an entry, or of a child whose row counts them in 20 bits
@@ -34,7 +34,7 @@ pub small-more : (a b : Totals) (i : ℕ) → Small a i → Slight b → Small (
 small-more a b i s t =
     record { live = omega (arith, s .live, t .live); dead = omega (arith, s .dead, t .dead); size = omega (arith, s .size, t .size) }
 
-pub small-addable : (a b : Totals) (i : ℕ) → i < 32 → Small a i → Slight b → Addable a b
+pub small-addable : (a b : Totals) (i : ℕ) → i < 32 → Small a i → Slight b → ToAdd a b
 small-addable a b i lt s t =
     record { live = omega (arith, s .live, t .live); dead = omega (arith, s .dead, t .dead); size = omega (arith, s .size, t .size) }
 

@@ -17,7 +17,7 @@ use Rattle.model.specs.Sound.{Fits}
 use Rattle.model.specs.Contracts.{flat}
 use Rattle.model.proofs.Trees.{listTotals, total-list, totals-count, sizes-few, plus-zero, plus-assoc}
 use Rattle.tree.specs.Bridge.{childTotals, rowTotals, rowFor}
-use Rattle.tree.specs.Sums.{sumRows, Addable, Sums}
+use Rattle.tree.specs.Sums.{sumRows, ToAdd, Sums}
 use Rattle.tree.proofs.Rows.{totals-back}
 use Rattle.tree.proofs.ReadOff.{Light, total-count}
 
@@ -65,7 +65,7 @@ sum-more h rs t i g =
     rw (drop-cons rs i blank g, add-one) (sym (plus-assoc t (rowTotals h (getD rs i blank)) (sumRows h (drop (suc i) rs))))
 
 pub sum-fits : (h : ℕ) (rs : List Row) (t : Totals) (i : ℕ) → i < length rs → Sums h rs → plus t (sumRows h (drop i rs)) ≡ sumRows h rs
-    → Addable t (rowTotals h (getD rs i blank))
+    → ToAdd t (rowTotals h (getD rs i blank))
 sum-fits h rs t i g s e =
     let live = ap (λ (u : Totals). u .live) (sym (sum-more h rs t i g) ∙ e) in
     let dead = ap (λ (u : Totals). u .dead) (sym (sum-more h rs t i g) ∙ e) in

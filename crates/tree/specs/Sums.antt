@@ -12,13 +12,13 @@ abbrev pub sumRows : ℕ → List Row → Totals
 sumRows h rows = sumOf (map (rowTotals h) rows)
 
 -- totals whose sums fit their fields
-pub record Addable (a b : Totals) : Type 0 where
+pub record ToAdd (a b : Totals) : Type 0 where
   pub live : a .live + b .live < 2 ^ 32
   pub dead : a .dead + b .dead < 2 ^ 32
   pub size : a .size + b .size < 2 ^ 64
 
 -- a slot and totals that fit a child's row
-pub record Packs (s : ℕ) (t : Totals) : Type 0 where
+pub record ToPack (s : ℕ) (t : Totals) : Type 0 where
   pub slot : s < 16384
   pub live : t .live < 1048576
   pub dead : t .dead < 1048576
@@ -29,7 +29,7 @@ pub record Sums (h : ℕ) (rows : List Row) : Type 0 where
   pub short : sumRows h rows .size < 2 ^ 64
 
 -- the node of height h in slot s can be weighed
-pub record Weighs (st : Settings) (W : List ℕ) (h s : ℕ) : Type 0 where
+pub record ToWeigh (st : Settings) (W : List ℕ) (h s : ℕ) : Type 0 where
   pub held : Held st W
   pub slot : s < st .nodes
   pub sums : Sums h (rowsAt st W s)

@@ -5,9 +5,10 @@ ghost use Prim.Native.Nat.{_<_};
 ghost use lib.ListN.{length, getD};
 ghost use Rattle.words.specs.Words.{words};
 ghost use Rattle.slots_raw.specs.Slots.{blank};
-ghost use Rattle.slots.specs.Nodes.{At, Rows, rowsAt};
+ghost use Rattle.slots.specs.Nodes.{rowsAt};
+ghost use Rattle.slots.specs.Contracts.{At, Rows};
 ghost use Rattle.tree.specs.Bridge.{childOf};
-ghost use Rattle.tree.specs.Sums.{sumRows, Weighs};
+ghost use Rattle.tree.specs.Sums.{sumRows, ToWeigh};
 ghost use Rattle.tree_node.specs.Ask.{lastKey, rowOver, Chosen};
 use model::Settings;
 use model::Totals;
@@ -20,7 +21,7 @@ use tree_rows::row_totals;
 
 // The totals of the node of height `height` in slot `s`, from its rows alone (the Rust's `stats`).
 pub fn stats(pool: &[u8], st: Settings, height: usize, s: usize) -> Totals
-    requires { ⌜ Weighs st (words (now pool)) height s ⌝ }
+    requires { ⌜ ToWeigh st (words (now pool)) height s ⌝ }
     ensures { λ r. ⌜ r ≡ sumRows height (rowsAt st (words (now (pool .entry))) s) ⌝ }
 {
     let n = slots::count(pool, st, s);
@@ -37,7 +38,7 @@ pub fn stats(pool: &[u8], st: Settings, height: usize, s: usize) -> Totals
 
 // The row of the node of height `height` in slot `s`. The greatest key is that of its last row. (The Rust's `max_key` and `stats`.)
 pub fn weigh(pool: &[u8], st: Settings, height: usize, s: usize) -> Row
-    requires { ⌜ Weighs st (words (now pool)) height s ⌝ }
+    requires { ⌜ ToWeigh st (words (now pool)) height s ⌝ }
     ensures { λ r. ⌜ r ≡ rowOver height s (rowsAt st (words (now (pool .entry))) s) ⌝ }
 {
     let key = last_key(pool, st, s);

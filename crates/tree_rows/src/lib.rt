@@ -8,7 +8,7 @@ ghost use Prim.Native.Nat.{_<_};
 ghost use Rattle.model.specs.Answer.{Tells};
 ghost use Rattle.model.specs.Tree.{adds, plus};
 ghost use Rattle.tree.specs.Bridge.{entryOf, childOf, childRow, childTotals, rowTotals};
-ghost use Rattle.tree.specs.Sums.{Addable, Packs};
+ghost use Rattle.tree.specs.Sums.{ToAdd, ToPack};
 use model::Entry;
 use model::Totals;
 pub use model::no_totals;
@@ -82,7 +82,7 @@ pub fn child_of(row: Row) -> usize
 
 // The row of a child: its slot stands in the body above its counts, which have twenty bits each.
 pub fn child_row(key: u64, slot: usize, t: Totals) -> Row
-    requires { ⌜ Packs slot t ⌝ }
+    requires { ⌜ ToPack slot t ⌝ }
     ensures { λ r. ⌜ r ≡ childRow key slot t ⌝ }
 {
     let body = slot as u64 * 0x100_0000_0000 + t.live as u64 * 0x10_0000 + t.dead as u64;
@@ -95,7 +95,7 @@ pub fn child_row(key: u64, slot: usize, t: Totals) -> Row
 
 // The sum of two totals.
 pub fn plus_totals(a: Totals, b: Totals) -> Totals
-    requires { ⌜ Addable a b ⌝ }
+    requires { ⌜ ToAdd a b ⌝ }
     ensures { λ r. ⌜ r ≡ plus a b ⌝ }
 {
     Totals {

@@ -6,7 +6,7 @@ use native.Mathlib.Omega.{arith}
 use lib.ListN.{length}
 use Rattle.words.specs.Words.{words}
 use Rattle.model.specs.Refuse.{call}
-use Rattle.batch_node.specs.Calls.{ToChange, Came}
+use Rattle.batch_node.specs.Calls.{ToChange, NodeChanged}
 use Rattle.batch_node.proofs.Rounds.{Roaming, round-start, round-at, round, next-in, child-in, child-call, pending, round-again, round-less, round-end}
 use borrow.Author.Needs.{needs}
 use borrow.Fn.Kinds.{In}
@@ -245,7 +245,7 @@ node-change-returns t c =
     let W = words (a .pool .now) in
     let W′ = words (done .leaf-change .last .0) in
     let r = done .leaf-change .result in
-    subst (λ (n : ℕ). Came (a .st) W W′ n (a .node) (call (a .op) (a .places .now) (a .sizes .now) (a .keys .now)) (a .run) r)
+    subst (λ (n : ℕ). NodeChanged (a .st) W W′ n (a .node) (call (a .op) (a .places .now) (a .sizes .now) (a .keys .now)) (a .run) r)
     (sym (leaf .if1 .taken)) (done .leaf-change .ensures)
 
 node-change-interior-change-requires : (t : ℕ) → node-change-lts.Need-interior-change-requires (nc t) (node-change-at t) node-change.Post
@@ -273,7 +273,7 @@ node-change-returns-2 t c =
     let W′ = words (done .interior-change .last .0) in
     let r = done .interior-change .result in
     let e : a .node .height ≡ suc (a .node .height - 1) = omega (arith, interior .if1 .left) in
-    subst (λ (n : ℕ). Came (a .st) W W′ n (a .node) (call (a .op) (a .places .now) (a .sizes .now) (a .keys .now)) (a .run) r)
+    subst (λ (n : ℕ). NodeChanged (a .st) W W′ n (a .node) (call (a .op) (a .places .now) (a .sizes .now) (a .keys .now)) (a .run) r)
     (sym e) (done .interior-change .ensures)
 
 pub +interior-change+node-change-spec : {M : Type 1} → statement M

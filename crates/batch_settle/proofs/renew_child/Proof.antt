@@ -6,7 +6,7 @@ use borrow.Author.Needs.{needs}
 use Rattle.words.specs.Words.{words}
 use Rattle.slots.specs.Nodes.{nodes}
 use Rattle.slots.proofs.Nodes.{become}
-use Rattle.batch_share.specs.Weigh.{Renews, renewed}
+use Rattle.batch_share.specs.Weigh.{ToRenew, renewed}
 use Rattle.batch_settle.proofs.renew_child.Statement.{statement}
 use Rattle.batch_settle.proofs.renew_child.Tie as tie
 
@@ -17,7 +17,7 @@ renew-requires : tie.Need-renew-requires
 renew-requires c κs =
     let start = c .before .before .before .before in
     let a = start .args in
-    subst (λ (x : ℕ). Renews (a .st) (words (a .pool .now)) (a .below) (a .s) (a .i) x) (sym (c .before .child-at .ensures)) (start .pre)
+    subst (λ (x : ℕ). ToRenew (a .st) (words (a .pool .now)) (a .below) (a .s) (a .i) x) (sym (c .before .child-at .ensures)) (start .pre)
 
 returns : tie.Need-returns
 returns c =

@@ -4,7 +4,8 @@ use Prim.Native.Nat.{ℕ, _+_, _*_}
 use native.Mathlib.Omega.{arith}
 use borrow.Author.Needs.{needs}
 use Rattle.words.specs.Words.{words}
-use Rattle.slots_raw.specs.Slots.{headLen, width, Base}
+use Rattle.slots_raw.specs.Slots.{headLen, width}
+use Rattle.slots_raw.specs.Contracts.{Base}
 use Rattle.slots_raw.proofs.Raws.{base-of}
 use Rattle.slots_raw.proofs.base.Statement.{statement}
 use Rattle.slots_raw.proofs.base.Tie as tie

@@ -2,7 +2,8 @@
 use mathlib.Core.Path.{refl, sym}
 use borrow.Author.Needs.{needs}
 use Rattle.words.specs.Words.{words}
-use Rattle.slots.specs.Nodes.{At, nodes}
+use Rattle.slots.specs.Nodes.{nodes}
+use Rattle.slots.specs.Contracts.{At}
 use Rattle.slots.proofs.Nodes.{become, put-same}
 use Rattle.batch_leaf.proofs.key.perform.Statement.{statement}
 use Rattle.batch_leaf.proofs.key.perform.Tie as tie

@@ -2,7 +2,7 @@
 use mathlib.Core.Path.{subst}
 use borrow.Author.Needs.{needs}
 use Rattle.words.specs.Words.{words}
-use Rattle.frame.specs.Walk.{Finds}
+use Rattle.frame.specs.Walk.{Located}
 use Rattle.frame.specs.declared.Found.{Found}
 use Rattle.frame.specs.declared.Found.the-variants.{Node}
 use Rattle.frame.proofs.Noded.{node-standing, node-none, node-low, node-written, contents-few}
@@ -18,10 +18,10 @@ find-requires c κs =
 found : (c : tie.After-s) →
     let a = c .before .before .before .before .before .args in
     let node = c .s .given .0 in
-    Finds (a .st) (words (a .pool .now)) (a .height) (a .st .root) (a .i) (Node (node .0) (node .1 .0))
+    Located (a .st) (words (a .pool .now)) (a .height) (a .st .root) (a .i) (Node (node .0) (node .1 .0))
 found c =
     let a = c .before .before .before .before .before .args in
-    subst (λ (x : Found). Finds (a .st) (words (a .pool .now)) (a .height) (a .st .root) (a .i) x) (c .s .given .1) (c .before .before .find .ensures)
+    subst (λ (x : Found). Located (a .st) (words (a .pool .now)) (a .height) (a .st .root) (a .i) x) (c .s .given .1) (c .before .before .find .ensures)
 
 contents-at-requires : tie.Need-contents-at-requires
 contents-at-requires c κs =
@@ -56,7 +56,7 @@ returns-2 : tie.Need-returns-2
 returns-2 c =
     let start = c .before .before .before .before .before in
     let a = start .args in
-    let none = subst (λ (x : Found). Finds (a .st) (words (a .pool .now)) (a .height) (a .st .root) (a .i) x) (c .enum-told .given .1) (c .before .before .find .ensures) in
+    let none = subst (λ (x : Found). Located (a .st) (words (a .pool .now)) (a .height) (a .st .root) (a .i) x) (c .enum-told .given .1) (c .before .before .find .ensures) in
     node-none (a .pool .now) (start .pre .0) (a .st) (a .height) (start .pre .1 .0) (start .pre .1 .1) (a .i) (c .enum-told .given .0 .0) (a .line .now) none
 
 pub write-node-spec : {M : Type 1} → statement M

@@ -9,7 +9,7 @@ use borrow.Fn.PlainCycle.{Measures, is, falls, and}
 use Rattle.words.specs.Words.{words}
 use Rattle.slots.specs.Nodes.{nodes, nth}
 use Rattle.slots.proofs.count.Reads as count-reads
-use Rattle.frame.specs.Walk.{Finds}
+use Rattle.frame.specs.Walk.{Located}
 use Rattle.frame.specs.declared.Found.the-variants.{Node}
 use Rattle.frame.specs.declared.Found.{Found}
 use Rattle.frame.proofs.Walks.{passed, passed-all, passed-leaf, standing-at, standing-row, standing-down, found-here, found-none, found-below, passed-below}
@@ -43,7 +43,7 @@ find-returns : (t : ℕ) → find-lts.Need-returns (callees t) (find-at t) find.
 find-returns t c =
     let a = c .before .before .args in
     let W = words (a .pool .now) in
-    subst (λ (x : ℕ). Finds (a .st) W (a .height) (a .s) x (Node (a .s) (a .height))) (sym (c .if1 .taken))
+    subst (λ (x : ℕ). Located (a .st) W (a .height) (a .s) x (Node (a .s) (a .height))) (sym (c .if1 .taken))
     (found-here (a .st) W (a .height) (a .s) (c .before .before .pre .1))
 
 find-returns-2 : (t : ℕ) → find-lts.Need-returns-2 (callees t) (find-at t) find.Post find-Inv-loop find-μ-loop
@@ -90,7 +90,7 @@ find-returns-3 t c =
     let kid = down .child-at in
     found-below (a .st) W (a .height) (a .s) (a .i) (h .j) (h .left) (kid .result) (found .t .given .0 .0) (found .t .given .0 .1 .0) (omega arith)
     (omega arith) (kid .ensures) (h .inv .1)
-    (subst (λ (x : Found). Finds (a .st) W (a .height - 1) (kid .result) (h .left) x) (found .t .given .1) (sought .find .ensures))
+    (subst (λ (x : Found). Located (a .st) W (a .height - 1) (kid .result) (h .left) x) (found .t .given .1) (sought .find .ensures))
 
 find-loop-again : (t : ℕ) → find-lts.Need-loop-again (callees t) (find-at t) find.Post find-Inv-loop find-μ-loop
 find-loop-again t c =
@@ -106,7 +106,7 @@ find-loop-again t c =
       omega arith,
       passed-below (a .st) W (a .height) (a .s) (a .i) (h .j) (h .left) (kid .result) (passed .k .given .0 .0) (omega arith) (omega arith)
           (kid .ensures) (h .inv .1)
-          (subst (λ (x : Found). Finds (a .st) W (a .height - 1) (kid .result) (h .left) x) (passed .k .given .1) (sought .find .ensures)),
+          (subst (λ (x : Found). Located (a .st) W (a .height - 1) (kid .result) (h .left) x) (passed .k .given .1) (sought .find .ensures)),
     )
 
 find-returns-4 : (t : ℕ) → find-lts.Need-returns-4 (callees t) (find-at t) find.Post find-Inv-loop find-μ-loop

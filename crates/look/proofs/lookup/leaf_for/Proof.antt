@@ -7,7 +7,7 @@ use Rattle.slots.specs.Nodes.{nodes}
 use Rattle.model.specs.Tree.{entries}
 use Rattle.model.specs.Plain.{held}
 use Rattle.tree.specs.Bridge.{treeAt}
-use Rattle.look.specs.Lookup.{Grown}
+use Rattle.look.specs.Lookup.{ToDescend}
 use Rattle.look.proofs.Descents.{grown-sorted, grown-some, descend, arrive}
 use Rattle.look.proofs.lookup.leaf_for.Statement.{statement}
 use Rattle.look.proofs.lookup.leaf_for.Tie as tie
@@ -15,7 +15,7 @@ use Rattle.look.proofs.lookup.leaf_for.Tie as tie
 abbrev Inv-loop : tie.InvT-loop
 Inv-loop pool st height key s₀ h₀ s h =
     let ns = nodes st (words pool) in
-    Grown st (words pool) h s × (held key (entries (suc h) (treeAt ns h s)) ≡ held key (entries (suc height) (treeAt ns height (st .root))))
+    ToDescend st (words pool) h s × (held key (entries (suc h) (treeAt ns h s)) ≡ held key (entries (suc height) (treeAt ns height (st .root))))
 
 abbrev μ-loop : tie.MeasureT-loop
 μ-loop pool st height key s₀ h₀ s h = h

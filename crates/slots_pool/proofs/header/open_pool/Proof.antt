@@ -10,7 +10,8 @@ use Rattle.words.specs.Words.{words}
 use Rattle.words.proofs.Laws.{length-words}
 use Rattle.model.specs.declared.Settings.{Settings}
 use Rattle.model.specs.Sound.{handed}
-use Rattle.slots.specs.Nodes.{At, Now, nodes, putKind, unused}
+use Rattle.slots.specs.Nodes.{nodes, putKind, unused}
+use Rattle.slots.specs.Contracts.{At, Now}
 use Rattle.slots_pool.specs.Header.{headerOf}
 use Rattle.slots_pool.specs.Image.{image}
 use Rattle.slots_pool.proofs.Fresh.{blank-words, blank-held, new-words}
