@@ -1,5 +1,6 @@
 // The desk's pool: opened, and changed by a batch whose answer is told as text.
 ghost use mathlib.Core.Path.{_≡_};
+ghost use Rattle.model.specs.Refuse.{call};
 ghost use Rattle.desk_promise.specs.Promise.{opened, Changes};
 use index_promise::BatchAnswer;
 use model::Operation;
@@ -26,7 +27,7 @@ pub fn change(
     op: Operation,
     text: &mut [u8; 4096],
 ) -> usize
-    ensures { λ r. ⌜ Changes (record { operation = op; places = now (places .entry); sizes = now (sizes .entry); keys = now (keys .entry) })
+    ensures { λ r. ⌜ Changes (call op (now (places .entry)) (now (sizes .entry)) (now (keys .entry)))
         (now (pool .entry)) (now (text .entry)) (record { count = r; pool = now (pool .exit); text = now (text .exit) }) ⌝ }
 {
     match index::batch(pool, keys, places, sizes, op) {

@@ -1,15 +1,13 @@
 // The refusals that look at the call alone.
 ghost use mathlib.Core.Path.{_≡_};
-ghost use Rattle.model.specs.Refuse.{descend, isEach, callRefusal};
+ghost use Rattle.model.specs.Refuse.{call, descend, isEach, callRefusal};
 ghost use Rattle.index_refuse.specs.Refusals.{miscounts};
 use model::Operation;
 use model::Settings;
 
 // The first of 3, 4 and 5 that applies; 0 where none does.
 pub fn call_refusal(st: Settings, keys: &[u64], places: &[u64], sizes: &[u32], op: Operation) -> u32
-    ensures { λ r.
-        ⌜ r ≡ callRefusal st (record { operation = op; places = now (places .entry); sizes = now (sizes .entry); keys = now (keys .entry) })
-        0 ⌝ }
+    ensures { λ r. ⌜ r ≡ callRefusal st (call op (now (places .entry)) (now (sizes .entry)) (now (keys .entry))) 0 ⌝ }
 {
     let n = keys.len();
     if st.order < n {

@@ -1,5 +1,6 @@
 // The refusals that look at keys: 3 to 7 of a batch, and 5 of a get.
 ghost use Prim.Native.Nat.{_≤_};
+ghost use Rattle.model.specs.Refuse.{call};
 ghost use Rattle.model.specs.Demands.{ReferenceFits, OperationFits};
 ghost use Rattle.index_refuse.specs.Refusals.{Refuses};
 
@@ -25,9 +26,7 @@ pub fn batch_refusal(
     op: Operation,
 ) -> u32
     requires { ⌜ st .order ≤ 32 ⌝ }
-    ensures { λ r.
-        ⌜ Refuses st height unused
-        (record { operation = op; places = now (places .entry); sizes = now (sizes .entry); keys = now (keys .entry) }) r ⌝ }
+    ensures { λ r. ⌜ Refuses st height unused (call op (now (places .entry)) (now (sizes .entry)) (now (keys .entry))) r ⌝ }
 {
     let n = call_refusal(st, keys, places, sizes, op);
     if n != 0 {
