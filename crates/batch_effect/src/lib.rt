@@ -71,7 +71,7 @@ fn same_reference(a: Reference, place: u64, size: u64) -> bool
 }
 
 // A size as a row holds it.
-pub fn wide(size: u32) -> u64
+fn wide(size: u32) -> u64
     ensures { λ r. ⌜ r ≡ size ⌝ }
 {
     size as u64

@@ -8,12 +8,12 @@ ghost use Rattle.batch_leaf.specs.Leaf.{Leaf};
 ghost use Rattle.batch_leaf.specs.Keys.{presenceAt, placeOf, performed, ToPerform, KeyDone};
 use batch_effect::Presence;
 use batch_effect::decide;
-use batch_effect::wide;
 use model::Effect;
 use model::Settings;
 use model::Wish;
 use slots_find::Found;
-use slots_raw::Row;
+use tree_rows::entry_place;
+use tree_rows::entry_row;
 
 // Does to leaf `s` what is asked of one key. Its answer is what was done.
 pub fn change_key(pool: &mut [u8], st: Settings, s: usize, key: u64, wish: Wish) -> Effect
@@ -36,7 +36,8 @@ fn presence_at(pool: &[u8], st: Settings, s: usize, key: u64, found: Found) -> P
     match found {
         Found::At(i) => {
             let row = slots::row_at(pool, st, s, i);
-            Presence::Held(row.body, row.size)
+            let place = entry_place(row);
+            Presence::Held(place, row.size)
         }
         Found::Before(_) => Presence::Absent,
     }
@@ -60,14 +61,12 @@ fn perform(pool: &mut [u8], st: Settings, s: usize, i: usize, key: u64, e: Effec
     match e {
         Effect::Leave => {}
         Effect::Add(r) => {
-            let body = r.place;
-            let size = wide(r.size);
-            slots::insert_row(pool, st, s, i, Row { key, body, size });
+            let row = entry_row(key, r);
+            slots::insert_row(pool, st, s, i, row);
         }
         Effect::Replace(r) => {
-            let body = r.place;
-            let size = wide(r.size);
-            slots::set_row(pool, st, s, i, Row { key, body, size });
+            let row = entry_row(key, r);
+            slots::set_row(pool, st, s, i, row);
         }
         Effect::Remove => slots::remove_row(pool, st, s, i),
     }

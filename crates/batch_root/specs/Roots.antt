@@ -5,7 +5,7 @@ use mathlib.Core.Logic.{_≢_}
 use mathlib.Core.List.{List, [], _∷_}
 use lib.ListN.{length, set}
 use Rattle.slots_raw.specs.Slots.{headIn}
-use Rattle.slots.specs.Nodes.{Held, nodes, nth, rowsAt, put2, withRows}
+use Rattle.slots.specs.Nodes.{interiorKind, Held, nodes, nth, rowsAt, put2, withRows}
 use Rattle.slots.specs.Nodes as S
 use Rattle.model.specs.declared.Settings.{Settings}
 use Rattle.model.specs.Lists.{All}
@@ -77,7 +77,7 @@ pub record ToCrown (st : Settings) (W : List ℕ) (h lower upper : ℕ) : Type 0
 
 abbrev pub crowned : ℕ → List S.Node → ℕ → ℕ → ℕ → List S.Node
 crowned root ns h lower upper =
-    set ns root (record { kind = 2; rows = rowOver h lower (nth ns lower .rows) ∷ rowOver h upper (nth ns upper .rows) ∷ [] })
+    set ns root (record { kind = interiorKind; rows = rowOver h lower (nth ns lower .rows) ∷ rowOver h upper (nth ns upper .rows) ∷ [] })
 
 -- A ROOT AFTER A CALL, with its result
 

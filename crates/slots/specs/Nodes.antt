@@ -10,14 +10,23 @@ use Rattle.slots_raw.specs.Slots.{blank, headIn, Raw, slots, rawAt, Shape}
 
 -- ---- nodes
 
--- kind 0 is an unused slot, 1 a leaf, 2 an interior node
+-- the kinds: of a slot that holds no node, of a leaf, of an interior node
+abbrev pub unusedKind : ℕ
+unusedKind = 0
+
+abbrev pub leafKind : ℕ
+leafKind = 1
+
+abbrev pub interiorKind : ℕ
+interiorKind = 2
+
 pub record Node : Type 0 where
   pub kind : ℕ
   pub rows : List Row
 
 -- an unused slot
 abbrev pub unused : Node
-unused = record { kind = 0; rows = [] }
+unused = record { kind = unusedKind; rows = [] }
 
 -- the node in a slot: the rows past the count are no rows of it
 unfoldable pub nodeOf : Raw → Node

@@ -4,7 +4,7 @@ use mathlib.Core.List.{List, [], _∷_, _++_}
 use lib.ListN.{replicate}
 use Rattle.slots_raw.specs.declared.Row.{Row}
 use Rattle.slots_raw.specs.Slots.{Raw}
-use Rattle.slots.specs.Nodes.{Node, unused, rawFor}
+use Rattle.slots.specs.Nodes.{Node, leafKind, unused, rawFor}
 
 -- the words of some rows
 unfoldable pub flatRows : List Row → List ℕ
@@ -22,4 +22,4 @@ image m (n ∷ ns) = block (rawFor m n) ++ image m ns
 
 -- the n nodes of a pool that was just opened: an empty leaf in slot 0, and every other slot unused
 abbrev pub newNodes : ℕ → List Node
-newNodes n = record { kind = 1; rows = [] } ∷ replicate (n - 1) unused
+newNodes n = record { kind = leafKind; rows = [] } ∷ replicate (n - 1) unused

@@ -158,7 +158,7 @@ pub fn begin(key: u64, left: usize) -> Part
     Part {
         ok: true,
         last: key,
-        totals: tree_rows::no_totals(),
+        totals: model::no_totals(),
         left,
     }
 }
@@ -183,7 +183,7 @@ pub fn fault() -> Part
     Part {
         ok: false,
         last: 0,
-        totals: tree_rows::no_totals(),
+        totals: model::no_totals(),
         left: 0,
     }
 }

@@ -6,7 +6,7 @@ use mathlib.Core.Bool.{cond}
 use mathlib.Core.List.{List, [], _∷_, map}
 use lib.Dec.{eqb}
 use Rattle.slots_raw.specs.declared.Row.{Row}
-use Rattle.slots.specs.Nodes.{nth, unused}
+use Rattle.slots.specs.Nodes.{leafKind, interiorKind, unusedKind, nth, unused}
 use Rattle.slots.specs.Nodes as S
 use Rattle.model.specs.declared.Totals.{Totals}
 use Rattle.model.specs.declared.Entry.{Entry}
@@ -15,10 +15,9 @@ use Rattle.model.specs.Tree.{Item, Tree, Index, greatestKey, adds, total, slots
 
 -- ROWS AND NODES
 
--- leaves are of kind 1, interiors of kind 2
 abbrev pub kindFor : ℕ → ℕ
-kindFor zero = 1
-kindFor (suc h) = 2
+kindFor zero = leafKind
+kindFor (suc h) = interiorKind
 
 -- a leaf's row is an entry
 abbrev pub entryRow : Entry → Row
@@ -79,7 +78,7 @@ treeAt ns (suc h) s = record { slot = s; items = map (λ r. treeAt ns h (childOf
 -- THE UNUSED SLOTS, ascending
 abbrev pub unusedFrom : ℕ → List S.Node → List ℕ
 unusedFrom s [] = []
-unusedFrom s (n ∷ ns) = cond (eqb (n .kind) 0) (s ∷ unusedFrom (suc s) ns) (unusedFrom (suc s) ns)
+unusedFrom s (n ∷ ns) = cond (eqb (n .kind) unusedKind) (s ∷ unusedFrom (suc s) ns) (unusedFrom (suc s) ns)
 
 abbrev pub unusedOf : List S.Node → List ℕ
 unusedOf ns = unusedFrom 0 ns

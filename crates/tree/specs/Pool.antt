@@ -9,7 +9,7 @@ use Rattle.words.specs.Words.{words, bytesOf}
 use Rattle.slots_raw.specs.declared.Row.{Row}
 use Rattle.slots_raw.specs.Slots.{width, headLen, rawAt}
 use Rattle.slots_pool.specs.Header.{layoutNumber, layoutOf, settingsOf, headerOf}
-use Rattle.slots.specs.Nodes.{nodes, nth, unused, Canon}
+use Rattle.slots.specs.Nodes.{leafKind, interiorKind, nodes, nth, unused, Canon}
 use Rattle.slots.specs.Nodes as S
 use Rattle.slots_pool.specs.Image.{image}
 use Rattle.model.specs.declared.PoolSettings.{PoolSettings}
@@ -49,7 +49,7 @@ firstChild (r ∷ rs) = childOf r
 -- how many interiors there are down the left edge from slot s, at most so many
 abbrev pub heightAt : List S.Node → ℕ → ℕ → ℕ
 heightAt ns zero s = 0
-heightAt ns (suc most) s = cond (eqb (nth ns s .kind) 2) (suc (heightAt ns most (firstChild (nth ns s .rows)))) 0
+heightAt ns (suc most) s = cond (eqb (nth ns s .kind) interiorKind) (suc (heightAt ns most (firstChild (nth ns s .rows)))) 0
 
 -- of the root in some slot; a tree that is deeper than 8 is seen as one of depth 9
 abbrev pub indexIn : ℕ → List S.Node → Index
@@ -72,8 +72,8 @@ indexOf l = indexIn (settingsIn l .root) (nodesIn l)
 
 -- the nodes of height 0 are leaves, those above interiors
 abbrev pub Kinds : List S.Node → (h : ℕ) → ℕ → Type 0
-Kinds ns zero s = nth ns s .kind ≡ 1
-Kinds ns (suc h) s = (nth ns s .kind ≡ 2) × All (λ r. Kinds ns h (childOf r)) (nth ns s .rows)
+Kinds ns zero s = nth ns s .kind ≡ leafKind
+Kinds ns (suc h) s = (nth ns s .kind ≡ interiorKind) × All (λ r. Kinds ns h (childOf r)) (nth ns s .rows)
 
 -- P holds of every interior row and the child that it names
 abbrev pub EachChild : ((h : ℕ) → Row → Tree h → Type 0) → List S.Node → (h : ℕ) → ℕ → Type 0

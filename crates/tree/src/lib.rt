@@ -8,14 +8,16 @@ ghost use Rattle.tree.specs.Bridge.{kindFor};
 ghost use Rattle.tree.specs.Pool.{poolLen};
 ghost use Rattle.tree.specs.Opening.{Opened};
 use model::PoolSettings;
+use slots::INTERIOR;
+use slots::LEAF;
 use slots_raw::HEADER;
 use slots_raw::width;
 
-// The kind of a node whose height is `height`: 1 for a leaf, 2 for an interior.
+// The kind of a node whose height is `height`.
 pub fn kind_for(height: usize) -> u64
     ensures { λ r. ⌜ r ≡ kindFor height ⌝ }
 {
-    if height == 0 { 1 } else { 2 }
+    if height == 0 { LEAF } else { INTERIOR }
 }
 
 // Whether a pool can have these settings.

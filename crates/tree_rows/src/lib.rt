@@ -1,17 +1,17 @@
 // What the words of a row mean, and what a row adds to its node. A leaf's row is an entry: its key, its place and its size. An interior's
 // row is a child: its greatest key, its slot beside its live and dead entries, and its size sum.
 //
-// The crates of the index ask here, so that none but this one takes a child's row apart or puts one together, and those that read take no
-// leaf's row apart either.
+// The crates of the index ask here, so that none but this one takes a row apart or puts one together.
 ghost use mathlib.Core.Path.{_≡_};
 ghost use Prim.Native.Nat.{_<_};
 ghost use Rattle.model.specs.Answer.{Tells};
 ghost use Rattle.model.specs.Tree.{adds, plus};
-ghost use Rattle.tree.specs.Bridge.{entryOf, childOf, childRow, childTotals, rowTotals};
+ghost use Rattle.model.specs.Plain.{entryFor};
+ghost use Rattle.tree.specs.Bridge.{entryRow, entryOf, childOf, childRow, childTotals, rowTotals};
 ghost use Rattle.tree.specs.Sums.{ToAdd, ToPack};
 use model::Entry;
+use model::Reference;
 use model::Totals;
-pub use model::no_totals;
 use slots_raw::Row;
 
 // What a row of a node of height `height` adds to the node's totals.
@@ -40,6 +40,17 @@ pub fn entry_totals(row: Row) -> Totals
         live: 1,
         dead: 0,
         size: row.size,
+    }
+}
+
+// A leaf's row, of a key and its reference.
+pub fn entry_row(key: u64, r: Reference) -> Row
+    ensures { λ q. ⌜ q ≡ entryRow (entryFor key r) ⌝ }
+{
+    Row {
+        key,
+        body: r.place,
+        size: r.size as u64,
     }
 }
 

@@ -30,14 +30,14 @@ returns-2 c =
     let put = c .before .before in
     let a = put .before .before .before .before .before .before .before .args in
     become (a .st) (words (a .pool .now)) (words (put .insert-row .last .0)) _ _ (put .insert-row .ensures)
-    (rw (put .before .before .before .before .e .given .1, put .before .before .wide .ensures))
+    (rw (put .before .before .before .before .e .given .1, put .before .before .entry-row .ensures))
 
 returns-3 : tie.Need-returns-3
 returns-3 c =
     let put = c .before .before in
     let a = put .before .before .before .before .before .before .before .args in
     become (a .st) (words (a .pool .now)) (words (put .set-row .last .0)) _ _ (put .set-row .ensures)
-    (rw (put .before .before .before .before .e2 .given .1, put .before .before .wide2 .ensures))
+    (rw (put .before .before .before .before .e2 .given .1, put .before .before .entry-row2 .ensures))
 
 returns-4 : tie.Need-returns-4
 returns-4 c =

@@ -11,7 +11,7 @@ row-at-requires c κs =
     record { held = start .pre .0 .held; slot = start .pre .0 .slot; within = omega (arith, rw (f .1) at (start .pre .1 .within)) }
 
 returns : tie.Need-returns
-returns c = rw (c .before .before .found .given .1, c .row-at .ensures)
+returns c = let read = c .before in rw (read .before .before .found .given .1, c .entry-place .ensures, read .row-at .ensures)
 
 pub presence-at-spec : {M : Type 1} → statement M
 presence-at-spec =
@@ -19,6 +19,7 @@ presence-at-spec =
     (tie.spec
     (λ c. search needs)
     row-at-requires
+    (λ c κs. tt)
     (λ c. search needs)
     returns
     (λ c. search needs))
