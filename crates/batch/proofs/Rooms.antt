@@ -9,7 +9,7 @@ use lib.ListN.{length, length-append}
 use Rattle.model.specs.declared.Counts.{Counts}
 use Rattle.model.specs.declared.Settings.{Settings}
 use Rattle.model.specs.Lists.{All, times}
-use Rattle.model.specs.Tree.{Tree, Index, slotsOf, entriesOf}
+use Rattle.model.specs.Tree.{Tree, Index, slots, slotsOf, entriesOf}
 use Rattle.model.specs.Plain.{Task}
 use Rattle.model.specs.declared.ChangeResult.the-variants.{Remove, Split}
 use Rattle.model.specs.Change.{isChange, Outcome, change, noCeiling, settleRoot, Batched, changeRoot}
@@ -19,7 +19,7 @@ use Rattle.model.proofs.Lists.{all-left}
 use Rattle.model.proofs.Plain.{list-all, list-long}
 use Rattle.model.proofs.Changes.{did-left, did-rising, Owes}
 use Rattle.model.proofs.Batches.{Fine, RootSettled, Room, calling, called, after-call}
-use Rattle.model.proofs.Batches.{call-given, call-owes, call-settled, call-fewer, call-enough, call-two, call-slots, call-room}
+use Rattle.model.proofs.Batches.{call-given, call-owes, call-settled, call-fewer, call-enough, call-two, call-room}
 use Rattle.tree.specs.Bridge.{Apart}
 
 -- AN INDEX THAT CAN TAKE THE TASKS ts
@@ -75,8 +75,13 @@ module _ {st : Settings} {x : Index} {t : Task} {ts : List Task} (lim : InLimits
   pub node-root : call .node .slot ≡ st .root
   node-root = owes .slot ∙ g .root
 
+  -- no slot is lost and none comes in
+  pub node-slots : (s : ℕ)
+      → times s (slots (suc (x .height)) (call .node)) + times s (call .run .unused) ≡ times s (slotsOf x) + times s (x .unused)
+  node-slots s = owes .slots enough s
+
   pub node-apart : Apart (x .height) (call .node)
-  node-apart s = omega (arith, owes .slots enough s, g .once s)
+  node-apart s = omega (arith, node-slots s, g .once s)
 
   parted : length (owes .did .taken) + length (call .tasks) ≡ suc (length ts)
   parted = sym (length-append (owes .did .taken) (call .tasks)) ∙ ap length (sym (owes .did .split))
@@ -90,13 +95,17 @@ module _ {st : Settings} {x : Index} {t : Task} {ts : List Task} (lim : InLimits
       rw (owes .did .list) (list-all Fits taken (g .fit))
 
   -- AND THE INDEX, once its result is settled
+  pub after-slots : (s : ℕ)
+      → times s (slotsOf after) + times s (after .unused) ≡ times s (slots (suc (x .height)) (call .node)) + times s (call .run .unused)
+  after-slots s = settled .slots two s
+
   pub going-on : Going st after (call .tasks)
   unfolding calling called after-call
   going-on =
       record {
         fine = settled .fine;
         root = settled .rootSlot ∙ node-root;
-        once = λ s. omega (arith, call-slots st lim x t ts c (g .fine) (g .rising) (g .short) (g .low) (g .room) s, g .once s);
+        once = λ s. omega (arith, after-slots s, node-slots s, g .once s);
         rising = did-rising (owes .did) (g .rising);
         short = omega (arith, fewer, g .short);
         low = did-left (owes .did) (g .low);

@@ -14,7 +14,8 @@ use Rattle.model.specs.declared.Counts.{Counts}
 use Rattle.model.specs.declared.Operation.{Operation}
 use Rattle.model.specs.declared.Operation.the-variants as Op
 use Rattle.model.specs.declared.Settings.{Settings}
-use Rattle.model.specs.Tree.{Tree, Index, entriesOf}
+use Rattle.model.specs.Lists.{times}
+use Rattle.model.specs.Tree.{Tree, Index, slotsOf, entriesOf}
 use Rattle.model.specs.Plain.{Task, noCounts}
 use Rattle.model.specs.declared.ChangeResult.{ChangeResult}
 use Rattle.model.specs.Change.{Outcome, Batched, change, noCeiling, settleRoot, changeRoot}
@@ -27,7 +28,7 @@ use Rattle.model.proofs.Demands.{sound-fine}
 use Rattle.batch_leaf.specs.declared.Run.{Run}
 use Rattle.batch_leaf.specs.declared.Subtree.{Subtree}
 use Rattle.batch_leaf.specs.Leaf.{Batch, Lent}
-use Rattle.tree.specs.Bridge.{treeAt, unusedOf, HoldsIndex}
+use Rattle.tree.specs.Bridge.{treeAt, unusedOf, HoldsIndex, Frame}
 use Rattle.tree.proofs.Few.{entries-most}
 use Rattle.tree_spare.specs.Spared.{Spared}
 use Rattle.batch_node.specs.declared.Reply.{Reply}
@@ -35,6 +36,7 @@ use Rattle.batch_node.specs.Calls.{runOf, Asked, ToChange, Answers, NodeChanged
 use Rattle.batch_root.specs.declared.Root.{Root}
 use Rattle.batch_root.specs.Roots.{indexAt, ToCollapse, ToSettleRoot, RootSettled, SettledRoot, collapsed}
 use Rattle.batch_root.proofs.Indexes.{root-read, index-read}
+use Rattle.batch_root.proofs.Outside.{Outside, outside-start, frame-then, outside-then}
 use Rattle.batch.specs.Batch.{ToBatch, Changed}
 use Rattle.batch.proofs.Rooms.{Going}
 use Rattle.batch.proofs.Rooms as R
@@ -48,6 +50,7 @@ pub record Running (st : Settings) (W₀ : List ℕ) (h₀ : ℕ) (b : M.Call) (
   pub header : headIn W ≡ headIn W₀
   pub holds : HoldsIndex (nodes st W) (indexAt (st .root) (nodes st W) h)
   pub spared : Spared (nodes st W) (run .spare)
+  pub outside : Outside (nodes st W₀) (nodes st W) (indexAt (st .root) (nodes st W₀) h₀) (indexAt (st .root) (nodes st W) h)
   pub long : length (M.tasksOf b) ≡ length (b .keys)
   pub batch : Batch b run
   pub going : Going st (indexAt (st .root) (nodes st W) h) (drop (run .next) (M.tasksOf b))
@@ -83,6 +86,7 @@ module _ {st : Settings} {W₀ : List ℕ} {root : Root} {b : M.Call} where
         header = refl;
         holds = a .holds;
         spared = a .spared;
+        outside = outside-start _ _;
         long = sym (length-map (M.tasksOf b) (λ t. t .key)) ∙ ap length (p .keys);
         batch = record {
           lent = lent-each (b .operation) (b .places) (b .sizes) (b .keys) (adm .matched);
@@ -125,6 +129,9 @@ module _ {st : Settings} {W₀ : List ℕ} {h₀ : ℕ} {b : M.Call} {W : List �
 
   abbrev ns : List S.Node
   ns = nodes st W
+
+  abbrev x₀ : Index
+  x₀ = indexAt (st .root) (nodes st W₀) h₀
 
   abbrev x : Index
   x = indexAt (st .root) (nodes st W) h
@@ -208,10 +215,16 @@ module _ {st : Settings} {W₀ : List ℕ} {h₀ : ℕ} {b : M.Call} {W : List �
       root-is : treeAt ms h (st .root) ≡ o .node
       root-is = root-read (st .root) ms h (o .node) (R.node-root lim c g) light (answers .holds)
 
+      called-is : indexAt (st .root) ms h ≡ x₁
+      called-is = index-read (st .root) ms h x₁ refl (R.node-root lim c g) light called
+
+      called-outside : Outside (nodes st W₀) ms x₀ x₁
+      called-outside = outside-then (m .outside) ms (answers .frame) x₁ (λ s. omega (arith, R.node-slots lim c g s))
+
       pub returned : ToSettleRoot st W₁ (record { height = h; spare = r .run .spare }) (r .result)
       returned =
           record {
-            keeps = subst (ToCollapse st W₁) (sym (index-read (st .root) ms h x₁ refl (R.node-root lim c g) light called)) (record {
+            keeps = subst (ToCollapse st W₁) (sym called-is) (record {
               held = came .held;
               holds = called;
               apart = R.node-apart lim c g;
@@ -245,6 +258,11 @@ module _ {st : Settings} {W₀ : List ℕ} {h₀ : ℕ} {b : M.Call} {W : List �
         read-y : indexAt (st .root) (nodes st W₂) (q .height) ≡ y
         read-y = index-read (st .root) (nodes st W₂) (q .height) y (done .height ∙ ap (λ (z : Index). z .height) is) (on .root) (omega (arith, on .small)) holds-y
 
+        outside-y : Outside (nodes st W₀) (nodes st W₂) x₀ y
+        outside-y =
+            let settled : Frame ms (nodes st W₂) (slotsOf x₁) = subst (λ (z : Index). Frame ms (nodes st W₂) (slotsOf z)) called-is (done .becomes .frame) in
+            outside-then called-outside (nodes st W₂) settled y (λ s. omega (arith, R.after-slots lim c g s, ap (times s) (answers .unused)))
+
         off : R.Calls lim c g (whole st W₀ h₀ T)
         off =
             R.call-off lim c g (m .calls) (whole st W₀ h₀ T) (omega (arith, m .enough, ap length (n .left)))
@@ -257,6 +275,7 @@ module _ {st : Settings} {W₀ : List ℕ} {h₀ : ℕ} {b : M.Call} {W : List �
               header = done .becomes .header ∙ came .header ∙ m .header;
               holds = subst (HoldsIndex (nodes st W₂)) (sym read-y) holds-y;
               spared = done .spared;
+              outside = subst (Outside (nodes st W₀) (nodes st W₂) x₀) (sym read-y) outside-y;
               long = m .long;
               batch = record { lent = came .batch .lent; short = came .batch .short; within = came .batch .within; few = came .batch .few };
               going = subst (λ (z : Index). Going st z (drop (r .run .next) T)) (sym read-y) (subst (Going st y) (sym (answers .left)) on);
@@ -268,13 +287,14 @@ module _ {st : Settings} {W₀ : List ℕ} {h₀ : ℕ} {b : M.Call} {W : List �
             }
 
   -- THE END: no key is left
-  pub finish : {W′ : List ℕ} {q : Root} → length (b .keys) ≤ run .next → RootSettled st W W′ (collapsed x) q
+  pub finish : {W′ : List ℕ} {q : Root} → length (b .keys) ≤ run .next → RootSettled st W W′ x (collapsed x) q
       → Changed st W₀ W′ h₀ b (record { counts = run .counts; root = q })
   finish {W′} {q} ge d =
       record {
         held = d .becomes .held;
         header = d .becomes .header ∙ m .header;
         holds = subst (λ (z : Batched). HoldsIndex (nodes st W′) (collapsed (z .index))) all (d .becomes .holds);
+        frame = frame-then (m .outside) (nodes st W′) (d .becomes .frame);
         counts = ap (λ (z : Batched). z .counts) all;
         height = d .height ∙ ap (λ (z : Batched). collapsed (z .index) .height) all;
         spared = d .spared;

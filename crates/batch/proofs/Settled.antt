@@ -1,20 +1,21 @@
 -- THE ROOT AFTER A CALL, by its result. Assumes nothing.
 use mathlib.Core.Path.{_≡_, refl, sym, ap, _∙_, subst}
 use mathlib.Core.List.{List, [], map}
-use Prim.Native.Nat.{ℕ, _+_}
+use Prim.Native.Nat.{ℕ, suc, _+_}
 use native.Mathlib.Omega.{arith}
 use lib.ListN.{set}
+use lib.Seq.{getD-set-other}
 use Rattle.slots_raw.specs.declared.Row.{Row}
-use Rattle.slots.specs.Nodes.{nodes, nth, putKind}
+use Rattle.slots.specs.Nodes.{nodes, nth, unused, putKind}
 use Rattle.slots.specs.Contracts.{Now}
 use Rattle.slots.specs.Nodes as S
 use Rattle.slots.proofs.Nodes.{nth-same}
 use Rattle.model.specs.declared.Settings.{Settings}
 use Rattle.model.specs.Lists.{none, one}
-use Rattle.model.specs.Tree.{Tree, Index}
+use Rattle.model.specs.Tree.{Tree, Index, slots}
 use Rattle.model.specs.Change.{settleRoot}
-use Rattle.model.proofs.Lists.{all-head}
-use Rattle.tree.specs.Bridge.{treeAt, rowFor, nodeFor, unusedOf, HoldsIndex}
+use Rattle.model.proofs.Lists.{all-head, hit-same}
+use Rattle.tree.specs.Bridge.{treeAt, rowFor, nodeFor, unusedOf, HoldsIndex, Frame}
 use Rattle.tree.proofs.Cells.{kind-used}
 use Rattle.model.specs.declared.ChangeResult.{ChangeResult}
 use Rattle.model.specs.declared.ChangeResult.the-variants.{Split, Remove}
@@ -72,12 +73,17 @@ module _ {st : Settings} {W : List ℕ} {root : Root} {v : ChangeResult} (pre : 
         blank = blank-set ns (st .root) bare (pre .keeps .holds .blank) (no-blank bare (kind-used 0));
       }
 
+  leaf-frame : Frame ns leaf (slots (suc h) t)
+  leaf-frame s u e =
+      let root = slot-read ns h (st .root) in
+      getD-set-other ns (st .root) s bare unused (λ q. absurd (omega (arith, e, hit-same s (t .slot) (q ∙ sym root))))
+
   pub gone-settled : {W′ : List ℕ} → v ≡ Remove → Now st W W′ (putKind (nodes st W) (st .root) 1) → SettledRoot st W W′ h v (record { height = 0; spare = root .spare })
   unfolding putKind
   gone-settled {W′} e w =
       subst (λ (u : ChangeResult). SettledRoot st W W′ h u (record { height = 0; spare = root .spare })) (sym e)
       (record {
-        becomes = now-holds st W W′ leaf _ w (leaf-holds (pre .gone e));
+        becomes = now-holds st W W′ leaf (indexAt (st .root) ns h) _ w (leaf-holds (pre .gone e)) leaf-frame;
         height = refl;
         spared = spared-same st W (pre .spared) W′ (ap unusedOf (w .is) ∙ leaf-unused);
       })
@@ -87,7 +93,12 @@ module _ {st : Settings} {W : List ℕ} {root : Root} {v : ChangeResult} (pre : 
   stays-settled e same =
       let is : indexAt (st .root) ns h ≡ settleRoot v h t (unusedOf ns) = sym same ∙ ap (λ (r : ChangeResult). settleRoot r h t (unusedOf ns)) (sym e) in
       record {
-        becomes = record { held = pre .keeps .held; header = refl; holds = subst (HoldsIndex ns) is (pre .keeps .holds) };
+        becomes = record {
+          held = pre .keeps .held;
+          header = refl;
+          holds = subst (HoldsIndex ns) is (pre .keeps .holds);
+          frame = λ s u q. refl;
+        };
         height = ap (λ (x : Index). x .height) is;
         spared = pre .spared;
       }

@@ -21,7 +21,7 @@ use Rattle.tree_spare.specs.declared.Spare.{Spare}
 use Rattle.tree_spare.specs.Spared.{Spared, ToTake}
 use Rattle.tree_spare.proofs.Spares.{spared-in, spared-taken}
 use Rattle.batch_share.proofs.Places.{node-used}
-use Rattle.batch_root.specs.Roots.{ToSplitRoot, Halved, ToMove, moved, ToCrown, crowned}
+use Rattle.batch_root.specs.Roots.{indexAt, ToSplitRoot, Halved, ToMove, moved, ToCrown, crowned}
 use Rattle.batch_root.proofs.Indexes.{keeps-root, now-holds}
 use Rattle.batch_root.proofs.Halves as H
 
@@ -132,7 +132,8 @@ module _ {st : Settings} {W₀ : List ℕ} {h : ℕ} {spare : Spare} (pre : ToSp
           split-done l =
               record {
                 becomes =
-                    now-holds st W₀ W₃ (H.above top second b-in) _ (record { held = cr .held; is = crown-is; header = cr .header ∙ sp .header ∙ mv .header })
-                    (H.above-holds top second b-in);
+                    now-holds st W₀ W₃ (H.above top second b-in) (indexAt (st .root) ns h) _
+                    (record { held = cr .held; is = crown-is; header = cr .header ∙ sp .header ∙ mv .header })
+                    (H.above-holds top second b-in) (H.above-frame top second b-in);
                 spared = l;
               }

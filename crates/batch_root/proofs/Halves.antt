@@ -14,12 +14,12 @@ use Rattle.slots_find.specs.Search.{Lowest}
 use Rattle.slots.proofs.Nodes.{nth-same}
 use Rattle.slots_raw.proofs.Over.{map-take, map-drop}
 use Rattle.model.specs.Lists.{times, All, none, one}
-use Rattle.model.specs.Tree.{Item, Tree, len, lowest, others}
+use Rattle.model.specs.Tree.{Item, Tree, len, lowest, others, slots}
 use Rattle.model.specs.Share.{half}
 use Rattle.model.specs.Change.{splitRoot}
 use Rattle.model.proofs.Lists.{all-append, all-left, all-right, all-head, all-tail, hit-same, hit-other}
 use Rattle.model.proofs.Trees.{slotsIn, slots-append}
-use Rattle.tree.specs.Bridge.{kindFor, rowFor, nodeFor, cellsOf, Stands, Holds, unusedOf, Blank, HoldsIndex, Apart}
+use Rattle.tree.specs.Bridge.{kindFor, rowFor, nodeFor, cellsOf, Stands, Holds, unusedOf, Blank, HoldsIndex, Apart, Frame}
 use Rattle.tree.proofs.Cells.{cells-append, agree-items, agree-tree, used-items, kind-used}
 use Rattle.tree.proofs.Unused.{used-in, unused-taken}
 use Rattle.tree.specs.Sums.{Sums}
@@ -161,15 +161,19 @@ module _ {r : ℕ} {ns : List S.Node} {h : ℕ} {t : Tree h} {a : ℕ} (p : Top 
         unused-same (set (moved r ns a) b high) a low whole-used (λ z. whole-used (ap (λ (m : S.Node). m .kind) (sym same) ∙ z))
         ∙ unused-taken (moved r ns a) b high second b-in whole-used .1 ∙ ap others moved-unused
 
-    -- the halves are held: no slot below the root is its own, a or b
-    kept : (x : ℕ) → 0 < times x (slotsIn h (t .items)) → nth split x ≡ nth ns x
-    kept x g =
-        let u : nth ns x .kind ≢ 0 = used-items ns h (t .items) (all-tail (p .holds)) x g in
-        let x-root : x ≢ r = λ e. absurd (omega (arith, p .apart x, g, hit-same x (t .slot) (e ∙ sym (p .root)))) in
+    -- a slot in use is neither a nor b
+    stood : (x : ℕ) → nth ns x .kind ≢ 0 → x ≢ r → nth split x ≡ nth ns x
+    stood x u x-root =
         let x-a : x ≢ a = λ e. u (ap (λ (y : ℕ). nth ns y .kind) e ∙ a-free) in
         let same : nth (moved r ns a) x ≡ nth ns x = put-other ns a (nth ns r) r bare x x-a x-root in
         let x-b : x ≢ b = λ e. u (ap (λ (m : S.Node). m .kind) (sym same) ∙ ap (λ (y : ℕ). nth (moved r ns a) y .kind) e ∙ b-free) in
         put-other (moved r ns a) b high a low x x-b x-a ∙ same
+
+    -- the halves are held: no slot below the root is its own
+    kept : (x : ℕ) → 0 < times x (slotsIn h (t .items)) → nth split x ≡ nth ns x
+    kept x g =
+        stood x (used-items ns h (t .items) (all-tail (p .holds)) x g)
+        (λ e. absurd (omega (arith, p .apart x, g, hit-same x (t .slot) (e ∙ sym (p .root)))))
 
     both : All (Stands split) (cellsOf h low-items ++ cellsOf h high-items)
     both =
@@ -249,6 +253,11 @@ module _ {r : ℕ} {ns : List S.Node} {h : ℕ} {t : Tree h} {a : ℕ} (p : Top 
           root = record { slot = t .slot; items = record { slot = first j; items = low-items } ∷ record { slot = next j; items = high-items } ∷ [] };
           unused = others (others (unusedOf ns));
         }
+
+    pub above-frame : Frame ns above (slots (suc h) t)
+    above-frame x u e =
+        let x-root : x ≢ r = λ q. absurd (omega (arith, e, hit-same x (t .slot) (q ∙ sym (p .root)))) in
+        getD-set-other split r x (nodeFor (suc h) parent) unused x-root ∙ stood x u x-root
 
     pub above-unused : unusedOf above ≡ others (others (unusedOf ns))
     above-unused = unused-same split r (nodeFor (suc h) parent) (kind-used (suc h)) split-used ∙ split-unused

@@ -13,8 +13,8 @@ use Rattle.tree.proofs.SoundHolds.{slot-read}
 use Rattle.batch_share.proofs.Places.{node-used}
 use Rattle.slots.specs.Nodes as S
 use Rattle.model.specs.declared.Settings.{Settings}
-use Rattle.model.specs.Tree.{Tree, Index, entriesOf}
-use Rattle.tree.specs.Bridge.{treeAt, unusedOf, Holds, HoldsIndex}
+use Rattle.model.specs.Tree.{Tree, Index, slotsOf, entriesOf}
+use Rattle.tree.specs.Bridge.{treeAt, unusedOf, Holds, HoldsIndex, Frame}
 use Rattle.tree.proofs.ReadOff.{Light, held-tree}
 use Rattle.batch_root.specs.Roots.{indexAt, ToCollapse, Becomes}
 
@@ -40,5 +40,12 @@ keeps-root {st} {W} {h} k =
       length-nodes st W,
     )
 
-pub now-holds : (st : Settings) (W W′ : List ℕ) (ms : List S.Node) (x : Index) → Now st W W′ ms → HoldsIndex ms x → Becomes st W W′ x
-now-holds st W W′ ms x w k = record { held = w .held; header = w .header; holds = subst (λ (z : List S.Node). HoldsIndex z x) (sym (w .is)) k }
+pub now-holds : (st : Settings) (W W′ : List ℕ) (ms : List S.Node) (x y : Index) → Now st W W′ ms → HoldsIndex ms y
+    → Frame (nodes st W) ms (slotsOf x) → Becomes st W W′ x y
+now-holds st W W′ ms x y w k f =
+    record {
+      held = w .held;
+      header = w .header;
+      holds = subst (λ (z : List S.Node). HoldsIndex z y) (sym (w .is)) k;
+      frame = λ s u e. ap (λ (z : List S.Node). nth z s) (w .is) ∙ f s u e;
+    }

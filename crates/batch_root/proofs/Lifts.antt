@@ -13,12 +13,12 @@ use Rattle.slots.specs.Nodes.{nth, unused, put2, withRows, putRows, putKind, wi
 use Rattle.slots.specs.Nodes as S
 use Rattle.slots.proofs.Nodes.{nth-same}
 use Rattle.model.specs.Lists.{times, All, one}
-use Rattle.model.specs.Tree.{Tree, slots, entries, release}
+use Rattle.model.specs.Tree.{Tree, slots, slotsOf, entries, release}
 use Rattle.model.specs.Change.{collapse}
 use Rattle.model.specs.Contracts.{flat}
 use Rattle.model.proofs.Lists.{all-left, all-head, all-tail, hit-same, times-append}
 use Rattle.model.proofs.Trees.{slotsIn}
-use Rattle.tree.specs.Bridge.{treeAt, childOf, kindFor, nodeFor, cells, cellsOf, Stands, Holds, unusedOf, Blank, HoldsIndex, Apart}
+use Rattle.tree.specs.Bridge.{treeAt, childOf, kindFor, nodeFor, cells, cellsOf, Stands, Holds, unusedOf, Blank, HoldsIndex, Apart, Frame}
 use Rattle.tree.proofs.Cells.{agree-items, kind-used}
 use Rattle.tree.proofs.Unused.{used-in, unused-released}
 use Rattle.batch_share.specs.Settle.{childAt}
@@ -67,14 +67,12 @@ module _ {r : ℕ} {ns : List S.Node} {h : ℕ} (p : Single r ns h) where
   child-held : Holds ns h child
   child-held = all-left (cells (suc h) child) [] (subst (λ (l : List (Tree h)). All (Stands ns) (cellsOf (suc h) l)) only (all-tail (p .holds)))
 
+  -- the slots are the root's and the child's
+  both-slots : (x : ℕ) → times x (slots (suc (suc h)) (treeAt ns (suc h) r)) ≡ times x (r ∷ slots (suc h) child)
+  both-slots x = omega (arith, ap (λ (l : List (Tree h)). times x (r ∷ slotsIn (suc h) l)) only, times-append x (slots (suc h) child) [])
+
   counts : (x : ℕ) → times x (r ∷ slots (suc h) child) ≤ 1
-  counts x =
-      omega (
-        arith,
-        p .apart x,
-        ap (λ (l : List (Tree h)). times x (r ∷ slotsIn (suc h) l)) only,
-        times-append x (slots (suc h) child) [],
-      )
+  counts x = omega (arith, p .apart x, both-slots x)
 
   pub child-root : child .slot ≢ r
   child-root e = absurd (omega (arith, counts r, hit-same r r refl, hit-same r (child .slot) (sym e)))
@@ -120,12 +118,20 @@ module _ {r : ℕ} {ns : List S.Node} {h : ℕ} (p : Single r ns h) where
         blank = blank-set (set ns r top) (child .slot) unused (blank-set ns r top empty (no-blank top (kind-used h))) (λ z. refl);
       }
 
+  pub raise-frame : Frame ns raise (slots (suc (suc h)) (treeAt ns (suc h) r))
+  raise-frame x u e =
+      put-other ns r top (child .slot) unused x (λ q. absurd (omega (arith, e, both-slots x, hit-same x r q)))
+      (λ q. absurd (omega (arith, e, both-slots x, hit-same x (child .slot) q)))
+
   -- the list is the same, and the slots but for the one given up
   pub lifted-list : flat h (child .items) ≡ entries (suc (suc h)) (treeAt ns (suc h) r)
   lifted-list = sym (append-nil (flat h (child .items))) ∙ ap (flat (suc h)) (sym only)
 
+  pub lifted-slots : (x : ℕ) → times x (slotsOf (lifted r ns h)) ≤ times x (slotsOf (indexAt r ns (suc h)))
+  lifted-slots x = omega (arith, both-slots x)
+
   pub lifted-apart : Apart h (lifted r ns h .root)
-  lifted-apart x = omega (arith, counts x)
+  lifted-apart x = omega (arith, lifted-slots x, p .apart x)
 
   pub lifted-same : collapsed (lifted r ns h) ≡ collapsed (indexAt r ns (suc h))
   lifted-same = ap (λ (l : List (Tree h)). collapse (suc h) r l (unusedOf ns)) (sym only)

@@ -12,8 +12,8 @@ use Rattle.slots.specs.Nodes as S
 use Rattle.slots.proofs.Nodes.{length-nodes, fits-node, then, become}
 use Rattle.slots.proofs.Pairs.{kept-same, own-rows}
 use Rattle.model.specs.declared.Settings.{Settings}
-use Rattle.model.specs.Lists.{All}
-use Rattle.model.specs.Tree.{Index, entriesOf, release}
+use Rattle.model.specs.Lists.{All, times}
+use Rattle.model.specs.Tree.{Index, slotsOf, entriesOf, release}
 use Rattle.model.specs.Sound.{Fits}
 use Rattle.tree.specs.Bridge.{childOf, kindFor, unusedOf, HoldsIndex}
 use Rattle.tree_spare.specs.declared.Spare.{Spare}
@@ -23,8 +23,9 @@ use Rattle.batch_share.specs.Settle.{childAt}
 use Rattle.batch_share.proofs.Places.{slot-of}
 use Rattle.batch_root.specs.Roots.{indexAt, ToCollapse, Becomes, RootSettled, ToLift, Lifted, lifted, collapsed}
 use Rattle.batch_root.proofs.Indexes.{index-read, keeps-root, now-holds}
-use Rattle.batch_root.proofs.Lifts.{none-left, raised, Single, child-root, child-in, raise, raise-holds}
-use Rattle.batch_root.proofs.Lifts.{lifted-list, lifted-apart, lifted-same, ends-leaf, ends-wide}
+use Rattle.batch_root.proofs.Outside.{Outside, outside-start, outside-then}
+use Rattle.batch_root.proofs.Lifts.{none-left, raised, Single, child-root, child-in, raise, raise-holds, raise-frame}
+use Rattle.batch_root.proofs.Lifts.{lifted-list, lifted-slots, lifted-apart, lifted-same, ends-leaf, ends-wide}
 
 single : {st : Settings} {W : List ℕ} {h : ℕ} {spare : Spare} → ToLift st W h spare → Single (st .root) (nodes st W) h
 single p = record { holds = p .keeps .holds .tree; apart = p .keeps .apart; one = p .one }
@@ -60,17 +61,18 @@ module _ {st : Settings} {W₀ : List ℕ} {h : ℕ} {spare : Spare} (pre : ToLi
           room = omega (arith, bare, fits-node st W₂ child (kinded .held));
         }
 
-    becomes-lifted : {W₃ : List ℕ} → Now st W₂ W₃ (joinNodes (nodes st W₂) (st .root) child) → Becomes st W₀ W₃ (lifted (st .root) ns h)
+    becomes-lifted : {W₃ : List ℕ} → Now st W₂ W₃ (joinNodes (nodes st W₂) (st .root) child)
+        → Becomes st W₀ W₃ (indexAt (st .root) ns (suc h)) (lifted (st .root) ns h)
     becomes-lifted {W₃} joined =
         let f : List S.Node → List S.Node = λ ms. putKind ms (st .root) k in
         let g : List S.Node → List S.Node = λ ms. joinNodes ms (st .root) child in
         let first : List S.Node = putRows ns (st .root) (without (nth ns (st .root) .rows) 0 1) in
-        now-holds st W₀ W₃ (raise (single pre)) (lifted (st .root) ns h)
+        now-holds st W₀ W₃ (raise (single pre)) (indexAt (st .root) ns (suc h)) (lifted (st .root) ns h)
         (become st W₀ W₃ (g (f first)) (raise (single pre)) (then g st W₀ W₂ W₃ (f first) (then f st W₀ W₁ W₂ first out kinded) joined)
         (raised ns (st .root) child k away (omega (arith, length-nodes st W₀, root-in)) (pre .one)
         ∙ ap (λ (j : ℕ). put2 ns (st .root) (record { kind = j; rows = nth ns child .rows }) child unused) ek
         ∙ ap (λ (j : ℕ). put2 ns (st .root) (record { kind = kindFor h; rows = nth ns j .rows }) j unused) (sym slot-is)))
-        (raise-holds (single pre) (pre .keeps .holds .blank))
+        (raise-holds (single pre) (pre .keeps .holds .blank)) (raise-frame (single pre))
 
     pub child-lifted : {W₃ : List ℕ} {r : Spare} → Now st W₂ W₃ (joinNodes (nodes st W₂) (st .root) child) → r ≡ freeing spare child → Lifted st W₀ W₃ h r
     child-lifted {W₃} joined e =
@@ -88,13 +90,17 @@ pub record Sinking (st : Settings) (W₀ W : List ℕ) (h₀ h : ℕ) (spare : S
   pub keeps : ToCollapse st W (indexAt (st .root) (nodes st W) h)
   pub header : headIn W ≡ headIn W₀
   pub spared : Spared (nodes st W) spare
+  pub outside : Outside (nodes st W₀) (nodes st W) (indexAt (st .root) (nodes st W₀) h₀) (indexAt (st .root) (nodes st W) h)
   pub same : collapsed (indexAt (st .root) (nodes st W) h) ≡ collapsed (indexAt (st .root) (nodes st W₀) h₀)
 
 pub sink-start : {st : Settings} {W : List ℕ} {h : ℕ} {spare : Spare} → ToCollapse st W (indexAt (st .root) (nodes st W) h) → Spared (nodes st W) spare
     → Sinking st W W h h spare
-sink-start k x = record { keeps = k; header = refl; spared = x; same = refl }
+sink-start k x = record { keeps = k; header = refl; spared = x; outside = outside-start _ _; same = refl }
 
 module _ {st : Settings} {W₀ W : List ℕ} {h₀ h : ℕ} {spare : Spare} (m : Sinking st W₀ W h₀ h spare) where
+  abbrev x₀ : Index
+  x₀ = indexAt (st .root) (nodes st W₀) h₀
+
   -- a root with one child, of height g, gives way to it
   pub lone : {g : ℕ} → h ≡ suc g → length (rowsAt st W (st .root)) ≡ 1 → ToLift st W g spare
   lone e q = record { keeps = subst (λ (n : ℕ). ToCollapse st W (indexAt (st .root) (nodes st W) n)) e (m .keeps); spared = m .spared; one = q }
@@ -104,6 +110,8 @@ module _ {st : Settings} {W₀ W : List ℕ} {h₀ h : ℕ} {spare : Spare} (m :
       let b = done .becomes in
       let p : ToLift st W g spare = lone e q in
       let list = lifted-list (single p) in
+      let from : Outside (nodes st W₀) (nodes st W) x₀ (indexAt (st .root) (nodes st W) (suc g)) =
+      subst (λ (n : ℕ). Outside (nodes st W₀) (nodes st W) x₀ (indexAt (st .root) (nodes st W) n)) e (m .outside) in
       let small : length (entriesOf (lifted (st .root) (nodes st W) g)) < 1048576 = omega (arith, ap length list, p .keeps .small) in
       let is : indexAt (st .root) (nodes st W′) g ≡ lifted (st .root) (nodes st W) g = index-read (st .root) (nodes st W′) g (lifted (st .root) (nodes st W) g) refl refl small (b .holds) in
       let now : ToCollapse st W′ (lifted (st .root) (nodes st W) g) =
@@ -112,23 +120,32 @@ module _ {st : Settings} {W₀ W : List ℕ} {h₀ h : ℕ} {spare : Spare} (m :
         keeps = subst (ToCollapse st W′) (sym is) now;
         header = b .header ∙ m .header;
         spared = done .spared;
+        outside = outside-then from (nodes st W′) (b .frame) (indexAt (st .root) (nodes st W′) g)
+            (λ s. omega (arith, ap (λ (z : Index). times s (slotsOf z)) is, lifted-slots (single p) s));
         same = ap collapsed is ∙ lifted-same (single p) ∙ ap (λ (n : ℕ). collapsed (indexAt (st .root) (nodes st W) n)) (sym e) ∙ m .same;
       }
 
-  sunk : collapsed (indexAt (st .root) (nodes st W) h) ≡ indexAt (st .root) (nodes st W) h
-      → RootSettled st W₀ W (collapsed (indexAt (st .root) (nodes st W₀) h₀)) (record { height = h; spare = spare })
+  -- what the loop leaves if it ends here
+  abbrev Sunk : Type 0
+  Sunk = RootSettled st W₀ W x₀ (collapsed x₀) (record { height = h; spare = spare })
+
+  sunk : collapsed (indexAt (st .root) (nodes st W) h) ≡ indexAt (st .root) (nodes st W) h → Sunk
   sunk e =
-      let is : indexAt (st .root) (nodes st W) h ≡ collapsed (indexAt (st .root) (nodes st W₀) h₀) = sym e ∙ m .same in
+      let is : indexAt (st .root) (nodes st W) h ≡ collapsed x₀ = sym e ∙ m .same in
       record {
-        becomes = record { held = m .keeps .held; header = m .header; holds = subst (HoldsIndex (nodes st W)) is (m .keeps .holds) };
+        becomes = record {
+          held = m .keeps .held;
+          header = m .header;
+          holds = subst (HoldsIndex (nodes st W)) is (m .keeps .holds);
+          frame = m .outside .frame;
+        };
         height = ap (λ (x : Index). x .height) is;
         spared = m .spared;
       }
 
   -- a leaf, and a root of any other number of children, stay
-  pub sink-leaf : h ≡ 0 → RootSettled st W₀ W (collapsed (indexAt (st .root) (nodes st W₀) h₀)) (record { height = h; spare = spare })
+  pub sink-leaf : h ≡ 0 → Sunk
   sink-leaf e = sunk (subst (λ (n : ℕ). collapsed (indexAt (st .root) (nodes st W) n) ≡ indexAt (st .root) (nodes st W) n) (sym e) (ends-leaf (st .root) (nodes st W)))
 
-  pub sink-wide : {g : ℕ} → h ≡ suc g → length (rowsAt st W (st .root)) ≢ 1
-      → RootSettled st W₀ W (collapsed (indexAt (st .root) (nodes st W₀) h₀)) (record { height = h; spare = spare })
+  pub sink-wide : {g : ℕ} → h ≡ suc g → length (rowsAt st W (st .root)) ≢ 1 → Sunk
   sink-wide {g} e q = sunk (subst (λ (n : ℕ). collapsed (indexAt (st .root) (nodes st W) n) ≡ indexAt (st .root) (nodes st W) n) (sym e) (ends-wide (st .root) (nodes st W) g q))

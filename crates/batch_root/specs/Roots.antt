@@ -9,11 +9,11 @@ use Rattle.slots.specs.Nodes.{interiorKind, Held, nodes, nth, rowsAt, put2, wit
 use Rattle.slots.specs.Nodes as S
 use Rattle.model.specs.declared.Settings.{Settings}
 use Rattle.model.specs.Lists.{All}
-use Rattle.model.specs.Tree.{Index, entriesOf, release}
+use Rattle.model.specs.Tree.{Index, slotsOf, entriesOf, release}
 use Rattle.model.specs.declared.ChangeResult.the-variants.{Split, Remove}
 use Rattle.model.specs.Change.{splitRoot, settleRoot, collapse}
 use Rattle.model.specs.Sound.{Fits}
-use Rattle.tree.specs.Bridge.{treeAt, unusedOf, Blank, HoldsIndex, Apart}
+use Rattle.tree.specs.Bridge.{treeAt, unusedOf, Blank, HoldsIndex, Apart, Frame}
 use Rattle.model.specs.declared.ChangeResult.{ChangeResult}
 use Rattle.batch_share.specs.Settle.{childAt}
 use Rattle.tree.specs.Sums.{Sums}
@@ -36,11 +36,12 @@ pub record ToCollapse (st : Settings) (W : List ℕ) (x : Index) : Type 0 where
   pub small : length (entriesOf x) < 1048576
   pub fit : All Fits (entriesOf x)
 
--- it was W, and now holds x
-pub record Becomes (st : Settings) (W W′ : List ℕ) (x : Index) : Type 0 where
+-- it was W and held x, and now holds y; every slot in use outside x is as it was
+pub record Becomes (st : Settings) (W W′ : List ℕ) (x y : Index) : Type 0 where
   pub held : Held st W′
   pub header : headIn W′ ≡ headIn W
-  pub holds : HoldsIndex (nodes st W′) x
+  pub holds : HoldsIndex (nodes st W′) y
+  pub frame : Frame (nodes st W) (nodes st W′) (slotsOf x)
 
 -- A ROOT THAT IS SPLIT
 
@@ -51,7 +52,7 @@ pub record ToSplitRoot (st : Settings) (W : List ℕ) (h : ℕ) (spare : Spare) 
   pub two : 2 ≤ length (unusedOf (nodes st W))
 
 pub record Halved (st : Settings) (W W′ : List ℕ) (h : ℕ) (r : Spare) : Type 0 where
-  pub becomes : Becomes st W W′ (splitRoot h (treeAt (nodes st W) h (st .root)) (unusedOf (nodes st W)))
+  pub becomes : let x = indexAt (st .root) (nodes st W) h in Becomes st W W′ x (splitRoot h (x .root) (x .unused))
   pub spared : Spared (nodes st W′) r
 
 -- its rows go to a new node of its kind, in the lowest unused slot ..
@@ -90,13 +91,13 @@ pub record ToSettleRoot (st : Settings) (W : List ℕ) (root : Root) (v : Change
   -- one level more can be counted
   pub bounded : root .height < 64
 
-pub record RootSettled (st : Settings) (W W′ : List ℕ) (x : Index) (r : Root) : Type 0 where
-  pub becomes : Becomes st W W′ x
-  pub height : r .height ≡ x .height
+pub record RootSettled (st : Settings) (W W′ : List ℕ) (x y : Index) (r : Root) : Type 0 where
+  pub becomes : Becomes st W W′ x y
+  pub height : r .height ≡ y .height
   pub spared : Spared (nodes st W′) (r .spare)
 
 abbrev pub SettledRoot : Settings → List ℕ → List ℕ → ℕ → ChangeResult → Root → Type 0
-SettledRoot st W W′ h v r = RootSettled st W W′ (settleRoot v h (treeAt (nodes st W) h (st .root)) (unusedOf (nodes st W))) r
+SettledRoot st W W′ h v r = let x = indexAt (st .root) (nodes st W) h in RootSettled st W W′ x (settleRoot v h (x .root) (x .unused)) r
 
 -- A ROOT WITH ONE CHILD, of height h, gives way to it
 
@@ -111,7 +112,7 @@ lifted root ns h =
     record { height = h; root = record { slot = root; items = c .items }; unused = release (c .slot) (unusedOf ns) }
 
 pub record Lifted (st : Settings) (W W′ : List ℕ) (h : ℕ) (r : Spare) : Type 0 where
-  pub becomes : Becomes st W W′ (lifted (st .root) (nodes st W) h)
+  pub becomes : Becomes st W W′ (indexAt (st .root) (nodes st W) (suc h)) (lifted (st .root) (nodes st W) h)
   pub spared : Spared (nodes st W′) r
 
 -- .. as long as there is one

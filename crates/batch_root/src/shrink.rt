@@ -13,7 +13,8 @@ pub fn collapse(pool: &mut [u8], st: Settings, root: Root) -> Root
     requires keeps { ⌜ ToCollapse st (words (now pool)) (indexAt (st .root) (nodes st (words (now pool))) (root .height)) ⌝ }
     requires spared { ⌜ Spared (nodes st (words (now pool))) (root .spare) ⌝ }
     ensures { λ r. let W = words (now (pool .entry)) in
-        ⌜ RootSettled st W (words (now (pool .exit))) (collapsed (indexAt (st .root) (nodes st W) (root .height))) r ⌝ }
+        let x = indexAt (st .root) (nodes st W) (root .height) in
+        ⌜ RootSettled st W (words (now (pool .exit))) x (collapsed x) r ⌝ }
 {
     let mut height = root.height;
     let mut spare = root.spare;
