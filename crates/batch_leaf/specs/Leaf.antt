@@ -1,6 +1,6 @@
 -- What `take_keys` asks, of a leaf and of a batch, and what it promises: the leaf, the keys left and the counts are those of the model's leaf.
 -- Assumes nothing.
-use Prim.Native.Nat.{ℕ, _+_, _≤_, _<_, max}
+use Prim.Native.Nat.{ℕ, _≤_, _<_, max}
 use mathlib.Core.Path.{_≡_}
 use mathlib.Core.Bool.{false}
 use mathlib.Core.List.{List, map}

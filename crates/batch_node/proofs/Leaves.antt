@@ -13,7 +13,7 @@ use Rattle.slots.specs.Nodes as S
 use Rattle.slots.proofs.Nodes.{length-nodes, nth-rows, nth-put}
 use Rattle.model.specs.declared.Settings.{Settings}
 use Rattle.model.specs.declared.Entry.{Entry}
-use Rattle.model.specs.Lists.{hit, All, none, one}
+use Rattle.model.specs.Lists.{All, none, one}
 use Rattle.model.specs.Tree.{Tree}
 use Rattle.model.specs.Plain.{Task}
 use Rattle.model.specs.Refuse.{Call, tasksOf}

@@ -1,7 +1,7 @@
 -- A part is kept behind the parts before it, and the parts are the line. Assumes nothing.
 use Prim.Native.Nat.{ℕ, _+_, _<_, _≤_}
 use native.Mathlib.Omega.{arith}
-use mathlib.Core.Path.{_≡_, refl, sym, ap, _∙_}
+use mathlib.Core.Path.{_≡_, refl, ap, _∙_}
 use mathlib.Core.Bool.{Bool, true, false, cond}
 use mathlib.Core.List.{List, _++_}
 use lib.Dec.{leb}
@@ -9,7 +9,7 @@ use lib.ListN.{length, take, drop, length-append}
 use lib.Seq.{length-take-le, take-at}
 use borrow.Author.Tests.{lt-leb, le-leb, leb-true, leb-false}
 use Rattle.desk_text.specs.Texts.{over}
-use Rattle.desk_lines.specs.Parts.{longest, Kept, whole, tooLong, kept, joined, Place, held, keeping, KeepsTheParts, CutAnyhow}
+use Rattle.desk_lines.specs.Parts.{longest, whole, tooLong, kept, joined, held, keeping, KeepsTheParts, CutAnyhow}
 
 -- THE STATEMENTS
 

@@ -24,7 +24,7 @@ use Rattle.look_output.specs.declared.Scanned.{Scanned}
 use Rattle.look_output.specs.Output.{roomIn}
 use Rattle.index_promise.specs.declared.GetAnswer.{GetAnswer}
 use Rattle.index_promise.specs.declared.ScanAnswer.{ScanAnswer}
-use Rattle.index_promise.specs.Promise.{Left, Opens, Totalling, totalled, Batches, batched, Gets, got, Scans, scanned, listed, written}
+use Rattle.index_promise.specs.Promise.{Opens, Totalling, totalled, Batches, batched, Gets, got, Scans, scanned, listed, written}
 
 -- A POOL THAT ANSWERS FROM A PLAIN LIST
 

@@ -20,7 +20,6 @@ use Rattle.tree.specs.Bridge.{HoldsIndex}
 use Rattle.tree.specs.Pool.{givenIn, settingsIn, nodesIn, indexOf, imageOf, SoundPool}
 use Rattle.tree.proofs.Pools.{sound-held, sound-index, sound-header, sound-holds-index, held-bytes, image-sound, image-index, image-settings}
 use Rattle.tree_spare.specs.Spared.{Spared}
-use Rattle.batch_root.specs.declared.Root.{Root}
 use Rattle.batch_root.specs.Roots.{indexAt}
 use Rattle.batch.specs.declared.Ran.{Ran}
 use Rattle.batch.specs.Batch.{ToBatch, Changed}

@@ -1,12 +1,11 @@
 -- The slots of a pool as nodes, a kind and a list of rows each; and a pool in order (`Held`), whose slots hold their node and zeros. Assumes nothing.
-use Prim.Native.Nat.{ℕ, _+_, _-_, _*_, _≤_, _<_}
+use Prim.Native.Nat.{ℕ, _+_, _-_, _≤_}
 use mathlib.Core.Path.{_≡_}
-use mathlib.Core.Logic.{_≢_}
 use mathlib.Core.List.{List, [], _++_, map}
 use lib.ListN.{length, take, drop, getD, set, replicate}
 use Rattle.model.specs.declared.Settings.{Settings}
 use Rattle.slots_raw.specs.declared.Row.{Row}
-use Rattle.slots_raw.specs.Slots.{blank, headIn, Raw, slots, rawAt, Shape}
+use Rattle.slots_raw.specs.Slots.{blank, Raw, slots, rawAt, Shape}
 
 -- ---- nodes
 

@@ -4,7 +4,7 @@ use Prim.Native.Nat.{ℕ, zero, suc, _+_, _-_, _*_, _≤_}
 use native.Mathlib.Nat.{suc-mul, zero-mul}
 use native.Mathlib.Omega.{arith}
 use mathlib.Core.List.{List, [], _∷_, _++_, append-nil}
-use lib.ListN.{length, take, drop, set, replicate, length-replicate, replicate-append-replicate}
+use lib.ListN.{length, drop, set, replicate, length-replicate, replicate-append-replicate}
 use lib.Seq.{drop-length}
 use Rattle.words_runs.specs.Moves.{cleared}
 use Rattle.model.specs.declared.PoolSettings.{PoolSettings}

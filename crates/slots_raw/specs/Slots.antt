@@ -1,6 +1,6 @@
 -- The words of a pool as slots: the header, then a slot for each node. A slot is a kind, a count, and the rows that there is room for. Nothing here asks
 -- that a slot makes sense. Assumes nothing.
-use Prim.Native.Nat.{ℕ, zero, suc, _+_, _*_, _≤_, _<_}
+use Prim.Native.Nat.{ℕ, zero, suc, _+_, _*_, _≤_}
 use mathlib.Core.Path.{_≡_}
 use mathlib.Core.List.{List, [], _∷_, map}
 use lib.ListN.{length, take, drop, getD, set}

@@ -2,7 +2,7 @@
 -- survey makes of it. Assumes nothing.
 use mathlib.Core.Path.{_≡_, refl, sym, ap, _∙_, subst}
 use mathlib.Core.Bool.{Bool, true, false, cond, true≢false}
-use mathlib.Core.List.{List, [], _∷_, _++_}
+use mathlib.Core.List.{List, _++_}
 use Prim.Native.Nat.{ℕ, zero, suc, _+_, _≤_, _<_}
 use native.Mathlib.Omega.{arith}
 use native.Mathlib.Decide.{decLt, ℕ-discrete}
@@ -10,9 +10,8 @@ use lib.Dec.{ltb, eqb}
 use lib.ListN.{length, length-append}
 use borrow.Author.Tests.{lt-ltb, le-ltb, eqb-true, eq-eqb}
 use Rattle.words.specs.Words.{words}
-use Rattle.slots.specs.Nodes.{nth, unused, nodes, rawFor}
+use Rattle.slots.specs.Nodes.{nth, nodes, rawFor}
 use Rattle.slots.specs.Nodes as S
-use Rattle.slots_find.specs.Search.{Lowest}
 use Rattle.slots.proofs.Nodes.{node-raw, length-nodes}
 use Rattle.slots_pool.proofs.Canons.{canon-zero, zero-unused}
 use Rattle.model.specs.declared.Settings.{Settings}
@@ -21,9 +20,9 @@ use Rattle.model.specs.Lists.{times}
 use Rattle.model.specs.Tree.{Tree, len, slots, entriesOf, slotsOf}
 use Rattle.model.specs.Sound.{Whole, Rooted, Once}
 use Rattle.model.proofs.Answers.{tells-unique}
-use Rattle.model.proofs.Lists.{all-every, by-test, times-append}
+use Rattle.model.proofs.Lists.{all-every, times-append}
 use Rattle.model.proofs.Trees.{once-count, slots-leaf, root-few}
-use Rattle.tree.specs.Bridge.{treeAt, unusedFrom, unusedOf}
+use Rattle.tree.specs.Bridge.{treeAt, unusedOf}
 use Rattle.tree.specs.Pool.{heightAt, indexIn, settingsIn, nodesIn, indexOf, Zeros, SoundNodes, SoundPool}
 use Rattle.tree.proofs.Counts.{times-all}
 use Rattle.tree.proofs.Cells.{used-tree}

@@ -1,7 +1,7 @@
 -- The rows of a right node add up to its totals, row by row, and every sum on the way fits. Assumes nothing.
 use mathlib.Core.Path.{_≡_, refl, sym, ap, _∙_}
 use mathlib.Core.List.{List, [], _∷_, map}
-use Prim.Native.Nat.{ℕ, zero, suc, _+_, _*_, _≤_, _<_}
+use Prim.Native.Nat.{ℕ, zero, suc, _+_, _≤_, _<_}
 use native.Mathlib.Omega.{arith}
 use native.Mathlib.Numerals.{add-one}
 use native.Mathlib.Decide.{ℕ-discrete}
@@ -9,10 +9,9 @@ use lib.ListN.{length, drop, getD, length-append, drop-of-length-le}
 use lib.Seq.{drop-cons}
 use Rattle.slots_raw.specs.declared.Row.{Row}
 use Rattle.slots_raw.specs.Slots.{blank}
-use Rattle.model.specs.declared.Entry.{Entry}
 use Rattle.model.specs.declared.Totals.{Totals}
-use Rattle.model.specs.Lists.{All, none, one}
-use Rattle.model.specs.Tree.{Item, Tree, entries, greatestKey, total, plus, sumOf, noTotals}
+use Rattle.model.specs.Lists.{All}
+use Rattle.model.specs.Tree.{Item, Tree, entries, greatestKey, total, plus, sumOf}
 use Rattle.model.specs.Sound.{Fits}
 use Rattle.model.specs.Contracts.{flat}
 use Rattle.model.proofs.Trees.{listTotals, total-list, totals-count, sizes-few, plus-zero, plus-assoc}

@@ -1,7 +1,7 @@
 // Runs of words: copied, set to 0, tested for zeros. A contract says of the whole list of words what becomes of it.
 ghost use mathlib.Core.Path.{_≡_};
 ghost use Prim.Native.Nat.{_+_, _<_, _≤_};
-ghost use lib.ListN.{length, take, drop, set};
+ghost use lib.ListN.{length, take, drop};
 ghost use Rattle.words.specs.Words.{words, Same};
 ghost use Rattle.words_runs.specs.Moves.{moved, cleared, allZero};
 use words::get;

@@ -1,6 +1,5 @@
 -- A part goes behind what is kept, if there is room. Assumes nothing.
 use Rattle.desk_lines.proofs.Keeps.{no-room, has-room}
-use mathlib.Core.Path.{_≡_, refl, sym, ap, _∙_}
 use native.Mathlib.Omega.{arith}
 use borrow.Author.Needs.{needs}
 use Rattle.desk_lines.proofs.parts.keep.Statement.{statement}
