@@ -9,7 +9,7 @@ use Rattle.model.specs.declared.Settings.{Settings}
 use Rattle.model.specs.Lists.{All, none, one}
 use Rattle.model.specs.Tree.{Tree, len, slotsOf}
 use Rattle.model.specs.Frame.{Frame, leaf, interior, nodesIn, branches, inTurn, framesFrom, framesOf, lineOf}
-use Rattle.model.specs.Sound.{Whole, Sound}
+use Rattle.model.specs.Sound.{Whole, Alone}
 use Rattle.model.proofs.Lists.{all-append, all-head, all-tail, all-map}
 use Rattle.model.proofs.Trees.{root-few, once-count}
 use Rattle.model.proofs.Readable.{branch-count}
@@ -67,7 +67,7 @@ module _ (l : List ℕ) (s : SoundPool l) (long : length l ≡ 3360) where
   abbrev fs : List Frame
   fs = framesOf (indexOf l)
 
-  index : Sound st (indexOf l)
+  index : Alone st (indexOf l)
   index = sound-index l s
 
   times : (a b : ℕ) → st .nodes * (a + b * st .order) ≡ st .nodes * a + b * (st .nodes * st .order)

@@ -12,7 +12,7 @@ use Rattle.model.specs.Tree.{Index, newIndex}
 use Rattle.model.specs.Change.{Batched, batch}
 use Rattle.model.specs.Answer.{Answer, refused, done, unless}
 use Rattle.model.specs.Refuse.{Call, answer, refusal, tasksOf}
-use Rattle.model.specs.Sound.{handed, InLimits, Fits, Sound}
+use Rattle.model.specs.Sound.{handed, InLimits, Fits, Alone}
 use Rattle.model.specs.Demands.{Lent}
 use Rattle.model.proofs.Demands as M
 use Rattle.model.proofs.Calls.{new-sound}
@@ -66,15 +66,15 @@ lent-set f =
 lent-drop : {ks : List ℕ} → All (λ k. k < 2 ^ 64) ks → Lent (dropCall ks)
 lent-drop f = record { operation = tt; places = none; sizes = none; keys = f }
 
-module _ (x : Index) (s : Sound (handed desk) x) where
-  batch-sound : (c : Call) → Lent c → Sound (handed desk) (batchReply (λ y. y) x (answer (handed desk) c x) .after)
+module _ (x : Index) (s : Alone (handed desk) x) where
+  batch-sound : (c : Call) → Lent c → Alone (handed desk) (batchReply (λ y. y) x (answer (handed desk) c x) .after)
   batch-sound c lent = by (refusal (handed desk) c x) refl
     where
-      by : (n : ℕ) → refusal (handed desk) c x ≡ n → Sound (handed desk) (batchReply (λ y. y) x (unless n (batch (handed desk) (tasksOf c) x)) .after)
+      by : (n : ℕ) → refusal (handed desk) c x ≡ n → Alone (handed desk) (batchReply (λ y. y) x (unless n (batch (handed desk) (tasksOf c) x)) .after)
       by zero e = M.one-batch (handed desk) c x s lent e .sound
       by (suc n) e = s
 
-  reply-sound : (w : Wanted) → WantedFits w → Sound (handed desk) (reply (λ y. y) x (handed desk) w x .after)
+  reply-sound : (w : Wanted) → WantedFits w → Alone (handed desk) (reply (λ y. y) x (handed desk) w x .after)
   reply-sound (set es) f = batch-sound (setCall es) (lent-set f)
   reply-sound (drops ks) f = batch-sound (dropCall ks) (lent-drop f)
   reply-sound dump f = s
@@ -102,7 +102,7 @@ module _ (x : Index) (s : Sound (handed desk) x) where
 
 -- LINES ONE AFTER THE OTHER
 
-run : (ls : List (List ℕ)) (x : Index) (written : List ℕ) → Sound (handed desk) x → Session (map kept ls) (imageOf desk x) written → written ≡ answers ls x
+run : (ls : List (List ℕ)) (x : Index) (written : List ℕ) → Alone (handed desk) x → Session (map kept ls) (imageOf desk x) written → written ≡ answers ls x
 run [] x written s rest = refl
 run (l ∷ ls) x written s (next {written = behind} t a p q) =
     let y = answered l x in

@@ -19,7 +19,7 @@ use Rattle.model.specs.Answer.{Answer}
 use Rattle.model.specs.Lists.{concat, All, one}
 use Rattle.model.specs.Tree.{Tree, entries, slots, entriesOf, greatestKey, total}
 use Rattle.model.specs.Frame.{Branch, Frame, leaf, interior, nodesIn, branches, framesOf, fitted, written, writeNode, lineOf}
-use Rattle.model.specs.Sound.{Fits, Sound}
+use Rattle.model.specs.Sound.{Fits, Alone}
 use Rattle.model.proofs.Lists.{all-head}
 use Rattle.tree.specs.Bridge.{entryOf, childOf, childTotals, rowFor, treeAt}
 use Rattle.tree.specs.Pool.{nodesOf, SoundPool, settingsIn, indexOf}
@@ -150,7 +150,7 @@ module _ (l : List ℕ) (s : SoundPool l) where
   sound-standing =
       let st = settingsIn l in
       let x = indexOf l in
-      let sound : Sound st x = sound-index l s in
+      let sound : Alone st x = sound-index l s in
       let same : nodes st (words l) ≡ nodesOf (st .nodes) x =
       held-nodesOf st x (nodes st (words l)) (length-nodes st (words l)) (sound-holds-index l s) sound in
       let many : length (entriesOf x) ≤ 524288 = entries-most st x sound in

@@ -15,7 +15,7 @@ use Rattle.model.specs.Change.{Batched, batch}
 use Rattle.model.specs.Answer.{Answer, refused, done, unless}
 use Rattle.model.specs.Look.{Listing, getAll, scan}
 use Rattle.model.specs.Refuse.{Call, tasksOf, refusal, descend}
-use Rattle.model.specs.Sound.{handed, Sound}
+use Rattle.model.specs.Sound.{handed, Alone}
 use Rattle.model.specs.Demands as D
 use Rattle.model.proofs.Answers.{refused-done}
 use Rattle.model.proofs.Demands as M
@@ -145,7 +145,7 @@ opened : (given : PoolSettings) (l new : List ℕ) → Opens given l Open.Done n
 opened given l new (fails u e) = absurd (refused-done 1 tt (sym (ap (λ w. w .answer) e)))
 opened given l new (holds (lim, exact) e) =
     let x = newIndex (given .nodes) in
-    let s : Sound (handed given) x = new-sound given lim in
+    let s : Alone (handed given) x = new-sound given lim in
     let is : new ≡ imageOf given x = ap (λ w. w .bytes) e in
     answers-from [] new (subst SoundPool (sym is) (image-sound given x s)) (ap entriesOf (ap indexOf is ∙ image-index given x s))
 

@@ -16,7 +16,7 @@ use Rattle.model.specs.Tree.{Tree, len, entries, entriesOf, totalsOf}
 use Rattle.model.specs.declared.Request.{Request}
 use Rattle.model.specs.Look.{listing, getAll, found, entering, openings, dueIn}
 use Rattle.model.specs.Look as M
-use Rattle.model.specs.Sound.{Rooted, Sound}
+use Rattle.model.specs.Sound.{Rooted, Alone}
 use Rattle.model.proofs.Lists.{all-head}
 use Rattle.model.proofs.Scans.{openings-few, entering-thin, openings-law}
 use Rattle.tree.specs.Bridge.{nodeFor, treeAt}
@@ -46,7 +46,7 @@ module _ (l : List ℕ) (st : Settings) (height : ℕ) (k : InPool l st height) 
   own : (P : Settings → ℕ → Type 0) → P (settingsIn l) (indexOf l .height) → P st height
   own P p = subst (λ (s : Settings). P s height) (sym (k .own)) (subst (P (settingsIn l)) (sym (k .tall)) p)
 
-  sound : Sound (settingsIn l) (indexOf l)
+  sound : Alone (settingsIn l) (indexOf l)
   sound = sound-index l (k .sound)
 
   -- the root's rows are those of its children

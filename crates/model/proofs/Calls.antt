@@ -22,7 +22,7 @@ use Rattle.model.specs.declared.Wish.the-variants.{Always}
 use Rattle.model.specs.Plain.{references, Task, each, pairs, tasksFor}
 use Rattle.model.specs.Change.{noCeiling}
 use Rattle.model.specs.Refuse.{Call, tasksOf, isRemove, isEach, descend, needed, callRefusal, treeRefusal, refusal}
-use Rattle.model.specs.Sound.{handed, InLimits, Sound, Fits, Ascending, Once}
+use Rattle.model.specs.Sound.{handed, InLimits, Sound, Alone, Fits, Ascending, Once}
 use Rattle.model.specs.Demands.{ReferenceFits, ActionFits, OperationFits, Lent}
 use Rattle.model.specs.Contracts.{Rising, Removing, Grants}
 use Rattle.model.proofs.Lists.{by-test, both-left, both-right, or-left, or-right, all-map, hit-same, hit-other}
@@ -177,7 +177,7 @@ pub record Passes (st : Settings) (c : Call) (x : Index) : Type 0 where
   pub room : Room x (tasksOf c)
   pub headroom : Headroom x (tasksOf c)
 
-pub passes : (st : Settings) (c : Call) (x : Index) → Sound st x → Lent c → refusal st c x ≡ 0 → Passes st c x
+pub passes : (st : Settings) (c : Call) {elsewhere : List ℕ} (x : Index) → Sound st elsewhere x → Lent c → refusal st c x ≡ 0 → Passes st c x
 passes st c x s lent q =
     let a : Admitted st c x = admitted st c x q in
     let ts : List Task = tasksOf c in
@@ -251,7 +251,7 @@ run-up : (a m : ℕ) → Ascending (upFrom a m)
 run-up a zero = nil
 run-up a (suc m) = cons (run-over (suc a) m a (omega arith)) (run-up (suc a) m)
 
-pub new-sound : (given : PoolSettings) → InLimits (handed given) → Sound (handed given) (newIndex (given .nodes))
+pub new-sound : (given : PoolSettings) → InLimits (handed given) → Alone (handed given) (newIndex (given .nodes))
 new-sound given lim =
     record {
       settings = lim;

@@ -7,16 +7,16 @@ use native.Mathlib.Omega.{arith}
 use Rattle.model.specs.declared.Entry.{Entry}
 use Rattle.model.specs.declared.Settings.{Settings}
 use Rattle.model.specs.Lists.{All, none, one}
-use Rattle.model.specs.Tree.{Index, Tree, entriesOf, adds, sumOf, newIndex}
+use Rattle.model.specs.Tree.{Index, Tree, slotsOf, entriesOf, adds, sumOf, newIndex}
 use Rattle.model.specs.Plain.{Task, references, plainList, plainCounts, noCounts}
 use Rattle.model.specs.Change.{batch}
 use Rattle.model.specs.Answer.{unless}
 use Rattle.model.specs.Look.{listing, found, dueIn}
 use Rattle.model.specs.Refuse.{Call, tasksOf, refusal, indexAfter}
-use Rattle.model.specs.Sound.{handed, Rooted, Sound}
-use Rattle.model.specs.Demands.{Lent, Batches, OneBatch, RemoveTakesNone, NoInteriorPasses, runAll, plainAfter, plainAll, AnswersFrom, Demand3, Swap, Demands}
+use Rattle.model.specs.Sound.{handed, Rooted, Sound, Alone}
+use Rattle.model.specs.Demands.{Lent, OneBatch, RemoveTakesNone, NoInteriorPasses, runAll, plainAfter, plainAll, AnswersFrom, Demand3, Swap, Demands}
 use Rattle.model.specs.Contracts.{Ready}
-use Rattle.model.proofs.Lists.{all-map, all-swap}
+use Rattle.model.proofs.Lists.{all-map, all-swap, times-append}
 use Rattle.model.proofs.Plain.{list-sorted, list-all, Differs, list-swap, counts-swap}
 use Rattle.model.proofs.Trees.{total-list}
 use Rattle.model.proofs.Batches.{Fine, BatchOwes, batch-law}
@@ -34,37 +34,42 @@ rooted-ready : (st : Settings) (h : ℕ) (n : Tree h) → Rooted st h n → Read
 rooted-ready st zero n r = r
 rooted-ready st (suc h) n r = record { some = omega (arith, r .0); few = r .1 }
 
-pub sound-fine : (st : Settings) (x : Index) → Sound st x → Fine st x
+pub sound-fine : (st : Settings) {elsewhere : List ℕ} (x : Index) → Sound st elsewhere x → Fine st x
 sound-fine st x s = record { whole = s .whole; sorted = s .sorted; ready = rooted-ready st (x .height) (x .root) (s .rooted) }
 
-module _ (st : Settings) (c : Call) (x : Index) (s : Sound st x) (lent : Lent c) (accepted : refusal st c x ≡ 0) where
+module _ (st : Settings) (c : Call) {elsewhere : List ℕ} (x : Index) (s : Sound st elsewhere x) (lent : Lent c) (accepted : refusal st c x ≡ 0) where
   call : Passes st c x
   call = passes st c x s lent accepted
 
   pub owes : BatchOwes st (s .settings) x (tasksOf c) (batch st (tasksOf c) x)
   owes = batch-law st (s .settings) x (tasksOf c) (call .short) (sound-fine st x s) (call .rising) (call .low)
 
-  pub batch-done : Batches st c x (batch st (tasksOf c) x)
-  batch-done =
+  -- whatever is in use elsewhere stays so
+  pub batch-sound : Sound st elsewhere (batch st (tasksOf c) x .index)
+  batch-sound =
       record {
-        list = owes .list;
-        counts = owes .counts;
-        left = owes .left;
-        sound = record {
-          settings = s .settings;
-          rootSlot = owes .rootSlot ∙ s .rootSlot;
-          once = λ i. owes .slots (call .room) i ∙ s .once i;
-          shallow = suc-le-suc (owes .shallow (call .headroom));
-          rooted = owes .rooted;
-          whole = owes .whole;
-          sorted = rw (owes .list) (list-sorted (tasksOf c) (s .sorted));
-          fit = rw (owes .list) (list-all _ (call .grants) (s .fit));
-          ascending = owes .up (s .ascending);
-        };
+        settings = s .settings;
+        rootSlot = owes .rootSlot ∙ s .rootSlot;
+        once = λ i.
+            omega (
+              arith,
+              s .once i,
+              owes .slots (call .room) i,
+              times-append i elsewhere (slotsOf x),
+              times-append i elsewhere (slotsOf (batch st (tasksOf c) x .index)),
+            );
+        shallow = suc-le-suc (owes .shallow (call .headroom));
+        rooted = owes .rooted;
+        whole = owes .whole;
+        sorted = rw (owes .list) (list-sorted (tasksOf c) (s .sorted));
+        fit = rw (owes .list) (list-all _ (call .grants) (s .fit));
+        ascending = owes .up (s .ascending);
       }
 
 pub one-batch : OneBatch
-one-batch st c x s lent q = batch-done st c x s lent q
+one-batch st c x s lent q =
+    let o = owes st c x s lent q in
+    record { list = o .list; counts = o .counts; left = o .left; sound = batch-sound st c x s lent q }
 
 pub remove-takes-none : RemoveTakesNone
 remove-takes-none st c x s lent q e =
@@ -91,7 +96,7 @@ answers-from x es e =
 
 -- the index and the list after one more call
 pub record Kept (st : Settings) (es : List Entry) (x : Index) : Type 0 where
-  pub sound : Sound st x
+  pub sound : Alone st x
   pub list : entriesOf x ≡ es
 
 keeps : (st : Settings) (c : Call) (x : Index) (es : List Entry) → Lent c → Kept st es x
@@ -100,7 +105,7 @@ keeps st c x es lent k = by (refusal st c x) refl
   where
     by : (n : ℕ) → refusal st c x ≡ n → Kept st (plainAfter n (tasksOf c) es) (indexAfter x (unless n (batch st (tasksOf c) x)))
     by zero q =
-        let b = batch-done st c x (k .sound) lent q in
+        let b = one-batch st c x (k .sound) lent q in
         record { sound = b .sound; list = b .list ∙ ap (plainList (tasksOf c)) (k .list) }
     by (suc n) q = k
 
@@ -122,10 +127,10 @@ differ ts us h = all-map (λ t g. all-keys (λ j. t .key ≢ j) us g) (all-keys 
 
 pub swap : Swap
 swap st c d x s lc ld apart qc qcd qd qdc =
-    let cx = batch-done st c x s lc qc in
-    let dx = batch-done st d x s ld qd in
-    let cd = batch-done st d (batch st (tasksOf c) x .index) (cx .sound) ld qcd in
-    let dc = batch-done st c (batch st (tasksOf d) x .index) (dx .sound) lc qdc in
+    let cx = one-batch st c x s lc qc in
+    let dx = one-batch st d x s ld qd in
+    let cd = one-batch st d (batch st (tasksOf c) x .index) (cx .sound) ld qcd in
+    let dc = one-batch st c (batch st (tasksOf d) x .index) (dx .sound) lc qdc in
     let pc = passes st c x s lc qc in
     let pd = passes st d x s ld qd in
     let far : All (λ t. Differs t (tasksOf d)) (tasksOf c) = differ (tasksOf c) (tasksOf d) (rw (pc .keys, pd .keys) apart) in

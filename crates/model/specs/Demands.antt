@@ -25,7 +25,7 @@ use Rattle.model.specs.Look.{listing, found, getAll, dueIn, openings, sc
 use Rattle.model.specs.Refuse.{Call, tasksOf, isRemove, refusal, answer, indexAfter}
 use Rattle.model.specs.Frame.{Frame, keysOf, framesOf, lineOf, entriesRefusal}
 use Rattle.model.specs.ReadFrame.{readLine}
-use Rattle.model.specs.Sound.{handed, InLimits, Whole, Sorted, Sound, FrameFits}
+use Rattle.model.specs.Sound.{handed, InLimits, Whole, Sorted, Alone, FrameFits}
 use Rattle.model.specs.Contracts.{flat, joined, OverFull}
 
 -- WHAT A CALL LENDS are numbers of their types: keys and places of 8 bytes, sizes of 4
@@ -56,15 +56,15 @@ pub record Batches (st : Settings) (c : Call) (x : Index) (b : Batched) : Type 0
   pub list : entriesOf (b .index) ≡ plainList (tasksOf c) (entriesOf x)
   pub counts : b .counts ≡ plainCounts (tasksOf c) (entriesOf x) noCounts
   pub left : b .tasks ≡ []
-  pub sound : Sound st (b .index)
+  pub sound : Alone st (b .index)
 
 abbrev pub OneBatch : Type 0
-OneBatch = (st : Settings) (c : Call) (x : Index) → Sound st x → Lent c → refusal st c x ≡ 0 → Batches st c x (batch st (tasksOf c) x)
+OneBatch = (st : Settings) (c : Call) (x : Index) → Alone st x → Lent c → refusal st c x ≡ 0 → Batches st c x (batch st (tasksOf c) x)
 
 -- a Remove takes no node: each slot that was unused still is, and the tree grows no deeper
 abbrev pub RemoveTakesNone : Type 0
 RemoveTakesNone =
-    (st : Settings) (c : Call) (x : Index) → Sound st x → Lent c → refusal st c x ≡ 0 → isRemove (c .operation) ≡ true
+    (st : Settings) (c : Call) (x : Index) → Alone st x → Lent c → refusal st c x ≡ 0 → isRemove (c .operation) ≡ true
     → ((s : ℕ) → times s (x .unused) ≤ times s (batch st (tasksOf c) x .index .unused)) × (depth (batch st (tasksOf c) x .index) ≤ depth x)
 
 -- NO INTERIOR PASSES 2 × ORDER while a batch runs, since a batch holds at most order keys
@@ -81,7 +81,7 @@ Uncrowded st (suc h) n ts run =
 -- so the root and all below it, after any number of the root's calls
 abbrev pub NoInteriorPasses : Type 0
 NoInteriorPasses =
-    (st : Settings) (c : Call) (x : Index) → Sound st x → Lent c → refusal st c x ≡ 0 → (calls : ℕ)
+    (st : Settings) (c : Call) (x : Index) → Alone st x → Lent c → refusal st c x ≡ 0 → (calls : ℕ)
     → let b = changeRoot st calls x (tasksOf c) noCounts in
     Uncrowded st (b .index .height) (b .index .root) (b .tasks) (record { unused = b .index .unused; counts = b .counts })
 
@@ -123,7 +123,7 @@ SharedSeparators =
 
 -- and of each node below the root of a sound index, so before and after every batch
 abbrev pub SoundSeparators : Type 0
-SoundSeparators = (st : Settings) (x : Index) → Sound st x → All (Separated (x .height)) (x .root .items)
+SoundSeparators = (st : Settings) (x : Index) → Alone st x → All (Separated (x .height)) (x .root .items)
 
 -- ANY SEQUENCE OF BATCHES from a new index
 
@@ -152,7 +152,7 @@ abbrev pub Demand3 : Type 0
 Demand3 =
     (given : PoolSettings) (cs : List Call) → InLimits (handed given) → All Lent cs
     → let st = handed given in
-    Sound st (runAll st cs (newIndex (st .nodes))) × AnswersFrom (plainAll st cs (newIndex (st .nodes)) []) (runAll st cs (newIndex (st .nodes)))
+    Alone st (runAll st cs (newIndex (st .nodes))) × AnswersFrom (plainAll st cs (newIndex (st .nodes)) []) (runAll st cs (newIndex (st .nodes)))
 
 -- TWO NEIGHBOURING BATCHES that share no key, both accepted in either order, may change places: the counts are the same, and so is the answer
 -- to every get, scan list and totals call straight after the pair
@@ -167,13 +167,13 @@ pub record ChangePlaces (st : Settings) (c d : Call) (x : Index) : Type 0 where
 
 abbrev pub Swap : Type 0
 Swap =
-    (st : Settings) (c d : Call) (x : Index) → Sound st x → Lent c → Lent d → Apart c d
+    (st : Settings) (c d : Call) (x : Index) → Alone st x → Lent c → Lent d → Apart c d
     → refusal st c x ≡ 0 → refusal st d (batch st (tasksOf c) x .index) ≡ 0 → refusal st d x ≡ 0 → refusal st c (batch st (tasksOf d) x .index) ≡ 0
     → ChangePlaces st c d x
 
 -- THE NODES THAT A SCAN OPENS hold exactly what it lists
 abbrev pub OpeningsList : Type 0
-OpeningsList = (st : Settings) (q : Request) (x : Index) → Sound st x → concat (openings q (x .height) (x .root)) ≡ dueIn q (entriesOf x)
+OpeningsList = (st : Settings) (q : Request) (x : Index) → Alone st x → concat (openings q (x .height) (x .root)) ≡ dueIn q (entriesOf x)
 
 -- WRITING AND READING A FRAME undo each other
 
@@ -185,7 +185,7 @@ WriteUndoesRead = (s : List ℕ) (f : Frame) → readLine s ≡ done f → lineO
 
 -- every frame of a sound index can be read back
 abbrev pub FramesRead : Type 0
-FramesRead = (st : Settings) (x : Index) → Sound st x → All (λ f. readLine (lineOf f) ≡ done f) (framesOf x)
+FramesRead = (st : Settings) (x : Index) → Alone st x → All (λ f. readLine (lineOf f) ≡ done f) (framesOf x)
 
 -- ALL OF THEM
 pub record Demands : Type 1 where

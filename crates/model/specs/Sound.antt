@@ -2,7 +2,7 @@
 -- Assumes nothing.
 use mathlib.Core.Path.{_≡_}
 use mathlib.Core.Bool.{cond}
-use mathlib.Core.List.{List}
+use mathlib.Core.List.{List, [], _++_}
 use Prim.Native.Nat.{ℕ, zero, suc, _+_, _*_, _/_, _^_, _≤_, _<_}
 use lib.Dec.{ltb}
 use Rattle.model.specs.declared.Entry.{Entry}
@@ -76,14 +76,18 @@ Ascending us = Ordered (λ u v. u ≤ v) us
 abbrev pub Once : ℕ → List ℕ → List ℕ → Type 0
 Once n used unused = (s : ℕ) → times s used + times s unused ≡ cond (ltb s n) 1 0
 
--- THE INDEX
-pub record Sound (st : Settings) (x : Index) : Type 0 where
+-- THE INDEX, in a pool that has some slots in use elsewhere
+pub record Sound (st : Settings) (elsewhere : List ℕ) (x : Index) : Type 0 where
   pub settings : InLimits st
   pub rootSlot : x .root .slot ≡ st .root
-  pub once : Once (st .nodes) (slotsOf x) (x .unused)
+  pub once : Once (st .nodes) (elsewhere ++ slotsOf x) (x .unused)
   pub shallow : depth x ≤ 8
   pub rooted : Rooted st (x .height) (x .root)
   pub whole : All (Whole st (x .height)) (x .root .items)
   pub sorted : Sorted (entriesOf x)
   pub fit : All Fits (entriesOf x)
   pub ascending : Ascending (x .unused)
+
+-- .. and in a pool of its own
+abbrev pub Alone : Settings → Index → Type 0
+Alone st x = Sound st [] x

@@ -9,21 +9,21 @@ use borrow.Author.Tests.{lt-ltb, le-ltb}
 use Rattle.model.specs.declared.Settings.{Settings}
 use Rattle.model.specs.Lists.{times, All}
 use Rattle.model.specs.Tree.{Index, entriesOf, slotsOf}
-use Rattle.model.specs.Sound.{Sound}
+use Rattle.model.specs.Sound.{Alone}
 use Rattle.model.proofs.Trees.{root-few, entries-few, once-count}
 use Rattle.tree.specs.Bridge.{Apart}
 use Rattle.tree.proofs.Counts.{all-times}
 
-pub used-few : (st : Settings) (x : Index) → Sound st x → length (slotsOf x) ≤ 16384
+pub used-few : (st : Settings) (x : Index) → Alone st x → length (slotsOf x) ≤ 16384
 used-few st x s = omega (arith, once-count (st .nodes) (slotsOf x) (x .unused) (s .once), s .settings .bounded)
 
-pub entries-most : (st : Settings) (x : Index) → Sound st x → length (entriesOf x) ≤ 524288
+pub entries-most : (st : Settings) (x : Index) → Alone st x → length (entriesOf x) ≤ 524288
 entries-most st x s =
     le-trans (entries-few st (x .height) (x .root) (root-few st (x .height) (x .root) (s .rooted)) (s .whole)) (mul-le-mul (s .settings .narrow) (used-few st x s))
 
 -- SLOTS
 
-module _ (st : Settings) (x : Index) (s : Sound st x) where
+module _ (st : Settings) (x : Index) (s : Alone st x) where
   -- a slot below N is used or unused, and not both
   pub slot-inside : (t : ℕ) → t < st .nodes → times t (slotsOf x) + times t (x .unused) ≡ 1
   slot-inside t h = s .once t ∙ rw (lt-ltb t (st .nodes) h)

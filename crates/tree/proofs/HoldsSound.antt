@@ -9,7 +9,7 @@ use Rattle.slots.specs.Nodes as S
 use Rattle.model.specs.declared.Settings.{Settings}
 use Rattle.model.specs.Lists.{All, one}
 use Rattle.model.specs.Tree.{Tree, Index, len, depth, entriesOf, slotsOf}
-use Rattle.model.specs.Sound.{Whole, Rooted, Sorted, Fits, Once, Sound}
+use Rattle.model.specs.Sound.{Whole, Rooted, Sorted, Fits, Once, Alone}
 use Rattle.model.proofs.Lists.{all-left, all-head, all-tail}
 use Rattle.tree.specs.Bridge.{childOf, rowFor, cells, cellsOf, Stands, Holds, treeAt, unusedOf}
 use Rattle.tree.specs.Pool.{firstChild, heightAt, indexIn, Kinds, EachChild, Separates, Totalled, SoundNodes}
@@ -75,7 +75,7 @@ module _ (st : Settings) (ns : List S.Node) where
 
 -- THE INDEX
 
-module _ (st : Settings) (ns : List S.Node) (x : Index) (sound : Sound st x) (k : Holds ns (x .height) (x .root)) (u : unusedOf ns ≡ x .unused) where
+module _ (st : Settings) (ns : List S.Node) (x : Index) (sound : Alone st x) (k : Holds ns (x .height) (x .root)) (u : unusedOf ns ≡ x .unused) where
   light-root : Light (x .height) (x .root)
   light-root = omega (arith, entries-most st x sound)
 

@@ -14,7 +14,7 @@ use Rattle.slots.specs.Nodes as S
 use Rattle.model.specs.declared.Settings.{Settings}
 use Rattle.model.specs.Lists.{times, upFrom, All, none, one}
 use Rattle.model.specs.Tree.{Index, slotsOf}
-use Rattle.model.specs.Sound.{Sound}
+use Rattle.model.specs.Sound.{Alone}
 use Rattle.model.proofs.Lists.{by-test, all-both, all-map, hit-same, hit-other}
 use Rattle.tree.specs.Bridge.{Cell, cells, Stands, Holds, unusedOf, Blank, HoldsIndex}
 use Rattle.tree.specs.Pool.{nodeIn, nodesOf}
@@ -70,7 +70,7 @@ node-own (c ∷ cs) h =
 
 -- NODESOF HOLDS A SOUND INDEX
 
-module _ (st : Settings) (x : Index) (sound : Sound st x) where
+module _ (st : Settings) (x : Index) (sound : Alone st x) where
   slots-of : (s : ℕ) → times s (places (cellsIn x)) ≡ times s (slotsOf x)
   slots-of s = ap (times s) (cell-places (suc (x .height)) (x .root))
 
@@ -118,7 +118,7 @@ node-found ns (one {x = c} {xs = cs} k ks) s f =
     by-test (λ (n : S.Node). nth ns s ≡ n) (eqb s (c .slot)) (λ e. ap (nth ns) (eqb-true s (c .slot) e) ∙ k)
     (λ e. node-found ns ks s (λ z. f (omega (arith, hit-other s (c .slot) (eqb-false s (c .slot) e)))))
 
-module _ (st : Settings) (x : Index) (ns : List S.Node) (size : length ns ≡ st .nodes) (k : HoldsIndex ns x) (sound : Sound st x) where
+module _ (st : Settings) (x : Index) (ns : List S.Node) (size : length ns ≡ st .nodes) (k : HoldsIndex ns x) (sound : Alone st x) where
   unheld : (s : ℕ) → s < st .nodes → times s (places (cellsIn x)) ≡ 0 → nth ns s ≡ unused
   unheld s h e = k .blank s (by (ℕ-discrete (nth ns s .kind) 0))
     where

@@ -17,7 +17,7 @@ use Rattle.slots.proofs.Nodes.{length-nodes}
 use Rattle.model.specs.declared.PoolSettings.{PoolSettings}
 use Rattle.model.specs.declared.Settings.{Settings}
 use Rattle.model.specs.Tree.{Index}
-use Rattle.model.specs.Sound.{handed, InLimits, Sound}
+use Rattle.model.specs.Sound.{handed, InLimits, Alone}
 use Rattle.tree.specs.Bridge.{HoldsIndex}
 use Rattle.tree.specs.Pool.{poolLen, nodesOf, wordsOf, imageOf, givenIn, settingsIn, nodesIn, indexOf, Zeros, SoundNodes, SoundPool}
 use Rattle.tree.proofs.Unused.{unused-up}
@@ -29,14 +29,14 @@ use Rattle.tree.proofs.Fitting.{nodesOf-fit, image-fits}
 -- FROM NODES TO BYTES: a pool that holds a sound index is its image
 
 pub held-words : (given : PoolSettings) (x : Index) (W : List ℕ) → let st = handed given in Held st W → headIn W ≡ headerOf given → HoldsIndex (nodes st W) x
-    → Sound st x → W ≡ wordsOf given x
+    → Alone st x → W ≡ wordsOf given x
 held-words given x W h e k s =
     let st : Settings = handed given in
     sym (image-of st W h) ∙ ap (λ (l : List ℕ). l ++ image (st .rows) (nodes st W)) e
     ∙ ap (λ (ns : List S.Node). headerOf given ++ image (st .rows) ns) (held-nodesOf st x (nodes st W) (length-nodes st W) k s)
 
 pub held-bytes : (given : PoolSettings) (x : Index) (W l : List ℕ) → let st = handed given in Held st W → headIn W ≡ headerOf given
-    → HoldsIndex (nodes st W) x → Sound st x → words l ≡ W → length l ≡ poolLen given → Bytes l → l ≡ imageOf given x
+    → HoldsIndex (nodes st W) x → Alone st x → words l ≡ W → length l ≡ poolLen given → Bytes l → l ≡ imageOf given x
 held-bytes given x W l h e k s w n b =
     sym (bytesOf-words (headLen + given .nodes * width (handed given .rows)) l n b) ∙ ap bytesOf (w ∙ held-words given x W h e k s)
 
@@ -55,7 +55,7 @@ module _ (l : List ℕ) (s : SoundPool l) where
   pub sound-holds-index : HoldsIndex (nodesIn l) (indexOf l)
   sound-holds-index = record { tree = sound-holds (settingsIn l) (nodesIn l) (s .nodes); unused = refl; blank = λ t. s .zeros t .whole }
 
-  pub sound-index : Sound (settingsIn l) (indexOf l)
+  pub sound-index : Alone (settingsIn l) (indexOf l)
   sound-index =
       let n : SoundNodes (settingsIn l) (nodesIn l) = s .nodes in
       record {
@@ -89,7 +89,7 @@ sound-image l s b =
 
 -- THE IMAGE OF A SOUND INDEX
 
-module _ (given : PoolSettings) (x : Index) (s : Sound (handed given) x) where
+module _ (given : PoolSettings) (x : Index) (s : Alone (handed given) x) where
   abbrev st : Settings
   st = handed given
 
@@ -143,7 +143,7 @@ module _ (given : PoolSettings) (x : Index) (s : Sound (handed given) x) where
 
 -- BOTH DETERMINE EACH OTHER
 
-pub index-unique : (given other : PoolSettings) (x y : Index) → Sound (handed given) x → Sound (handed other) y → imageOf given x ≡ imageOf other y
+pub index-unique : (given other : PoolSettings) (x y : Index) → Alone (handed given) x → Alone (handed other) y → imageOf given x ≡ imageOf other y
     → (given ≡ other) × (x ≡ y)
 index-unique given other x y s t e =
     (sym (image-given given x s) ∙ ap givenIn e ∙ image-given other y t, sym (image-index given x s) ∙ ap indexOf e ∙ image-index other y t)
