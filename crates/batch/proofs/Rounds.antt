@@ -22,7 +22,7 @@ use Rattle.model.specs.Change.{Outcome, Batched, change, noCeiling, settleRoot,
 use Rattle.model.specs.Refuse.{isEach}
 use Rattle.model.specs.Refuse as M
 use Rattle.model.specs.Sound.{InLimits}
-use Rattle.model.proofs.Lists.{by-test, all-head, both-left, both-right}
+use Rattle.model.proofs.Lists.{by-test, all-head, both-left, both-right, times-append}
 use Rattle.model.proofs.Calls.{Admitted, admitted, Passes, passes}
 use Rattle.model.proofs.Demands.{sound-fine}
 use Rattle.batch_leaf.specs.declared.Run.{Run}
@@ -97,7 +97,7 @@ module _ {st : Settings} {W₀ : List ℕ} {root : Root} {b : M.Call} where
         going = record {
           fine = sound-fine st x (a .sound);
           root = a .sound .rootSlot;
-          once = λ s. once-most s (st .nodes) _ (a .sound .once s);
+          once = λ s. omega (arith, once-most s (st .nodes) _ (a .sound .once s), times-append s (a .elsewhere) (slotsOf x));
           rising = p .rising;
           short = p .short;
           low = p .low;

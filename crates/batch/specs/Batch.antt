@@ -8,7 +8,7 @@ use Rattle.model.specs.declared.Settings.{Settings}
 use Rattle.model.specs.Tree.{Index, slotsOf}
 use Rattle.model.specs.Change.{Batched, batch}
 use Rattle.model.specs.Refuse.{Call, tasksOf, refusal}
-use Rattle.model.specs.Sound.{Alone}
+use Rattle.model.specs.Sound.{Sound}
 use Rattle.model.specs.Demands.{Lent}
 use Rattle.tree.specs.Bridge.{HoldsIndex, Frame}
 use Rattle.tree_spare.specs.Spared.{Spared}
@@ -16,11 +16,12 @@ use Rattle.batch_root.specs.declared.Root.{Root}
 use Rattle.batch_root.specs.Roots.{indexAt}
 use Rattle.batch.specs.declared.Ran.{Ran}
 
--- a batch that is not refused, of a sound index
+-- a batch that is not refused, of a sound index beside some slots that are in use elsewhere
 pub record ToBatch (st : Settings) (W : List ℕ) (root : Root) (c : Call) : Type 0 where
   pub held : Held st W
   pub holds : HoldsIndex (nodes st W) (indexAt (st .root) (nodes st W) (root .height))
-  pub sound : Alone st (indexAt (st .root) (nodes st W) (root .height))
+  pub elsewhere : List ℕ
+  pub sound : Sound st elsewhere (indexAt (st .root) (nodes st W) (root .height))
   pub spared : Spared (nodes st W) (root .spare)
   pub lent : Lent c
   pub accepted : refusal st c (indexAt (st .root) (nodes st W) (root .height)) ≡ 0

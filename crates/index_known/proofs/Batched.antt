@@ -2,7 +2,7 @@
 use Prim.Native.Nat.{ℕ, zero, suc, _≤_}
 use mathlib.Core.Path.{_≡_, refl, sym, ap, _∙_, subst}
 use mathlib.Core.Logic.{_≢_}
-use mathlib.Core.List.{List}
+use mathlib.Core.List.{List, []}
 use lib.ListN.{length}
 use Rattle.words.specs.Words.{words}
 use Rattle.words.proofs.Laws.{Bytes}
@@ -67,6 +67,7 @@ module _ {l : List ℕ} {k : Known} (w : Knows l k) where
             record {
               held = sound-held l (w .sound);
               holds = rw same (sound-holds-index l (w .sound));
+              elsewhere = [];
               sound = rw same (sound-index l (w .sound));
               spared = w .spared;
               lent = lent;

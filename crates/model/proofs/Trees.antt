@@ -14,8 +14,8 @@ use Rattle.model.specs.declared.Entry.{Entry}
 use Rattle.model.specs.declared.Totals.{Totals}
 use Rattle.model.specs.declared.Settings.{Settings}
 use Rattle.model.specs.Lists.{concat, hit, times, All, none, one}
-use Rattle.model.specs.Tree.{Node, Item, Tree, len, entries, slots, greatestKey, lastOf, total, isLive, adds, plus, sumOf, noTotals}
-use Rattle.model.specs.Sound.{Whole, Rooted, Sorted, Fits, Once}
+use Rattle.model.specs.Tree.{Node, Item, Tree, Index, len, entries, slots, slotsOf, greatestKey, lastOf, total, isLive, adds, plus, sumOf, noTotals}
+use Rattle.model.specs.Sound.{Whole, Rooted, Sorted, Fits, Once, Sound}
 use Rattle.model.specs.Contracts.{flat, joined, back}
 use Rattle.model.proofs.Lists.{all-append, all-right, all-map, ordered-apart, parts-append, times-append, hit-same, hit-other}
 use Rattle.model.proofs.Plain.{Under, Over}
@@ -270,3 +270,8 @@ once-count n used unused f =
     let few : All (λ x. x < n) (used ++ unused) = none-past n (used ++ unused) (λ s le. once-past s n _ (each s) le) in
     let full : tally n (used ++ unused) ≡ n = tally-ones n (used ++ unused) (λ s lt. once-in s n _ (each s) lt) in
     omega (arith, tally-all n few, length-append used unused)
+
+-- a sound index has at most a node for each slot, whatever is in use elsewhere
+pub used-most : (st : Settings) {elsewhere : List ℕ} (x : Index) → Sound st elsewhere x → length (slotsOf x) ≤ st .nodes
+used-most st {elsewhere} x s =
+    omega (arith, once-count (st .nodes) (elsewhere ++ slotsOf x) (x .unused) (s .once), length-append elsewhere (slotsOf x))

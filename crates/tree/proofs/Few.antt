@@ -1,5 +1,6 @@
 -- A sound index is small: at most 2 ^ 19 entries, and every slot of it is one of the pool's, taken once. Assumes nothing.
 use mathlib.Core.Path.{_≡_, _∙_}
+use mathlib.Core.List.{List}
 use Prim.Native.Nat.{ℕ, _+_, _≤_, _<_}
 use native.Mathlib.Omega.{arith}
 use native.Mathlib.Decide.{decLt}
@@ -9,15 +10,15 @@ use borrow.Author.Tests.{lt-ltb, le-ltb}
 use Rattle.model.specs.declared.Settings.{Settings}
 use Rattle.model.specs.Lists.{times, All}
 use Rattle.model.specs.Tree.{Index, entriesOf, slotsOf}
-use Rattle.model.specs.Sound.{Alone}
-use Rattle.model.proofs.Trees.{root-few, entries-few, once-count}
+use Rattle.model.specs.Sound.{Sound, Alone}
+use Rattle.model.proofs.Trees.{root-few, entries-few, used-most}
 use Rattle.tree.specs.Bridge.{Apart}
 use Rattle.tree.proofs.Counts.{all-times}
 
-pub used-few : (st : Settings) (x : Index) → Alone st x → length (slotsOf x) ≤ 16384
-used-few st x s = omega (arith, once-count (st .nodes) (slotsOf x) (x .unused) (s .once), s .settings .bounded)
+pub used-few : (st : Settings) {elsewhere : List ℕ} (x : Index) → Sound st elsewhere x → length (slotsOf x) ≤ 16384
+used-few st x s = omega (arith, used-most st x s, s .settings .bounded)
 
-pub entries-most : (st : Settings) (x : Index) → Alone st x → length (entriesOf x) ≤ 524288
+pub entries-most : (st : Settings) {elsewhere : List ℕ} (x : Index) → Sound st elsewhere x → length (entriesOf x) ≤ 524288
 entries-most st x s =
     le-trans (entries-few st (x .height) (x .root) (root-few st (x .height) (x .root) (s .rooted)) (s .whole)) (mul-le-mul (s .settings .narrow) (used-few st x s))
 
