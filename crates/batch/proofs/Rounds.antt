@@ -1,10 +1,10 @@
 -- THE LOOP OF A BATCH: the model's calls of the root from here are its calls from the start, and the pool holds the index so far. Assumes nothing.
 use mathlib.Core.Path.{_≡_, refl, sym, ap, _∙_, subst}
-use mathlib.Core.Bool.{true, false, not, cond, _&&_}
+use mathlib.Core.Bool.{true, false, not, _&&_}
 use mathlib.Core.List.{List, [], _∷_}
 use Prim.Native.Nat.{ℕ, _+_, _≤_, _<_}
 use native.Mathlib.Omega.{arith}
-use lib.Dec.{ltb, eqb}
+use lib.Dec.{eqb}
 use lib.ListN.{length, drop, length-map, length-drop}
 use borrow.Author.Tests.{eqb-true, not-false}
 use Rattle.slots_raw.specs.Slots.{headIn}
@@ -22,14 +22,14 @@ use Rattle.model.specs.Change.{Outcome, Batched, change, noCeiling, settleRoot,
 use Rattle.model.specs.Refuse.{isEach}
 use Rattle.model.specs.Refuse as M
 use Rattle.model.specs.Sound.{InLimits}
-use Rattle.model.proofs.Lists.{by-test, all-head, both-left, both-right, times-append}
+use Rattle.model.proofs.Lists.{all-head, both-left, both-right}
 use Rattle.model.proofs.Calls.{Admitted, admitted, Passes, passes}
 use Rattle.model.proofs.Demands.{sound-fine}
 use Rattle.batch_leaf.specs.declared.Run.{Run}
 use Rattle.batch_leaf.specs.declared.Subtree.{Subtree}
 use Rattle.batch_leaf.specs.Leaf.{Batch, Lent}
 use Rattle.tree.specs.Bridge.{treeAt, unusedOf, HoldsIndex, Frame}
-use Rattle.tree.proofs.Few.{entries-most}
+use Rattle.tree.proofs.Few.{entries-most, slot-once}
 use Rattle.tree_spare.specs.Spared.{Spared}
 use Rattle.batch_node.specs.declared.Reply.{Reply}
 use Rattle.batch_node.specs.Calls.{runOf, Asked, ToChange, Answers, NodeChanged}
@@ -71,9 +71,6 @@ lent-each Op.SetEach ps zs ks e =
 lent-each Op.Remove ps zs ks e = tt
 lent-each (Op.Compare x a) ps zs ks e = tt
 
-once-most : (s m n : ℕ) → n ≡ cond (ltb s m) 1 0 → n ≤ 1
-once-most s m n = by-test (λ (v : ℕ). n ≡ v → n ≤ 1) (ltb s m) (λ q e. omega arith) (λ q e. omega arith)
-
 module _ {st : Settings} {W₀ : List ℕ} {root : Root} {b : M.Call} where
   pub start : {c : Counts} → c ≡ noCounts → ToBatch st W₀ root b
       → Running st W₀ (root .height) b W₀ (root .height) (record { next = 0; counts = c; spare = root .spare })
@@ -97,7 +94,7 @@ module _ {st : Settings} {W₀ : List ℕ} {root : Root} {b : M.Call} where
         going = record {
           fine = sound-fine st x (a .sound);
           root = a .sound .rootSlot;
-          once = λ s. omega (arith, once-most s (st .nodes) _ (a .sound .once s), times-append s (a .elsewhere) (slotsOf x));
+          once = slot-once st x (a .sound);
           rising = p .rising;
           short = p .short;
           low = p .low;

@@ -7,11 +7,11 @@ use mathlib.Core.List.{List, [], _∷_}
 use lib.ListN.{length, length-append, length-map}
 use Rattle.model.specs.declared.Settings.{Settings}
 use Rattle.model.specs.Lists.{All, none, one}
-use Rattle.model.specs.Tree.{Tree, len, slotsOf}
+use Rattle.model.specs.Tree.{Tree, len}
 use Rattle.model.specs.Frame.{Frame, leaf, interior, nodesIn, branches, inTurn, framesFrom, framesOf, lineOf}
 use Rattle.model.specs.Sound.{Whole, Alone}
 use Rattle.model.proofs.Lists.{all-append, all-head, all-tail, all-map}
-use Rattle.model.proofs.Trees.{root-few, once-count}
+use Rattle.model.proofs.Trees.{root-few, used-most}
 use Rattle.model.proofs.Readable.{branch-count}
 use Rattle.frame_text.specs.Entries.{startOf}
 use Rattle.frame_text.specs.Contents.{ofEntry, ofBranch, contentsOf}
@@ -81,7 +81,7 @@ module _ (l : List ℕ) (s : SoundPool l) (long : length l ≡ 3360) where
   four = mul-le-mul-left (st .nodes) (s .settings .wide)
 
   many : length fs ≤ st .nodes
-  many = omega (arith, frames-long (indexOf l .height) 0 (indexOf l .root), once-count (st .nodes) (slotsOf (indexOf l)) (indexOf l .unused) (index .once))
+  many = omega (arith, frames-long (indexOf l .height) 0 (indexOf l .root), used-most st (indexOf l) index)
 
   pub frames-16 : length fs ≤ 16
   frames-16 = omega (arith, many, sized, four)

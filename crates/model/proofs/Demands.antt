@@ -13,7 +13,7 @@ use Rattle.model.specs.Change.{batch}
 use Rattle.model.specs.Answer.{unless}
 use Rattle.model.specs.Look.{listing, found, dueIn}
 use Rattle.model.specs.Refuse.{Call, tasksOf, refusal, indexAfter}
-use Rattle.model.specs.Sound.{handed, Rooted, Sound, Alone}
+use Rattle.model.specs.Sound.{handed, Rooted, Sound}
 use Rattle.model.specs.Demands.{Lent, OneBatch, RemoveTakesNone, NoInteriorPasses, runAll, plainAfter, plainAll, AnswersFrom, Demand3, Swap, Demands}
 use Rattle.model.specs.Contracts.{Ready}
 use Rattle.model.proofs.Lists.{all-map, all-swap, times-append}
@@ -95,28 +95,29 @@ answers-from x es e =
     }
 
 -- the index and the list after one more call
-pub record Kept (st : Settings) (es : List Entry) (x : Index) : Type 0 where
-  pub sound : Alone st x
+pub record Kept (st : Settings) (elsewhere : List ℕ) (es : List Entry) (x : Index) : Type 0 where
+  pub sound : Sound st elsewhere x
   pub list : entriesOf x ≡ es
 
-keeps : (st : Settings) (c : Call) (x : Index) (es : List Entry) → Lent c → Kept st es x
-    → Kept st (plainAfter (refusal st c x) (tasksOf c) es) (indexAfter x (unless (refusal st c x) (batch st (tasksOf c) x)))
-keeps st c x es lent k = by (refusal st c x) refl
+keeps : (st : Settings) {elsewhere : List ℕ} (c : Call) (x : Index) (es : List Entry) → Lent c → Kept st elsewhere es x
+    → Kept st elsewhere (plainAfter (refusal st c x) (tasksOf c) es) (indexAfter x (unless (refusal st c x) (batch st (tasksOf c) x)))
+keeps st {elsewhere} c x es lent k = by (refusal st c x) refl
   where
-    by : (n : ℕ) → refusal st c x ≡ n → Kept st (plainAfter n (tasksOf c) es) (indexAfter x (unless n (batch st (tasksOf c) x)))
+    by : (n : ℕ) → refusal st c x ≡ n → Kept st elsewhere (plainAfter n (tasksOf c) es) (indexAfter x (unless n (batch st (tasksOf c) x)))
     by zero q =
-        let b = one-batch st c x (k .sound) lent q in
-        record { sound = b .sound; list = b .list ∙ ap (plainList (tasksOf c)) (k .list) }
+        let list = owes st c x (k .sound) lent q .list in
+        record { sound = batch-sound st c x (k .sound) lent q; list = list ∙ ap (plainList (tasksOf c)) (k .list) }
     by (suc n) q = k
 
-sequence : (st : Settings) {cs : List Call} (x : Index) (es : List Entry) → All Lent cs → Kept st es x → Kept st (plainAll st cs x es) (runAll st cs x)
+sequence : (st : Settings) {elsewhere : List ℕ} {cs : List Call} (x : Index) (es : List Entry) → All Lent cs → Kept st elsewhere es x
+    → Kept st elsewhere (plainAll st cs x es) (runAll st cs x)
 sequence st x es none k = k
 sequence st x es (one {x = c} h hs) k = sequence st _ _ hs (keeps st c x es h k)
 
 pub demand-3 : Demand3
 demand-3 given cs lim lent =
     let st : Settings = handed given in
-    let k : Kept st (plainAll st cs (newIndex (st .nodes)) []) (runAll st cs (newIndex (st .nodes))) =
+    let k : Kept st [] (plainAll st cs (newIndex (st .nodes)) []) (runAll st cs (newIndex (st .nodes))) =
     sequence st (newIndex (st .nodes)) [] lent (record { sound = new-sound given lim; list = refl }) in
     (k .sound, answers-from (runAll st cs (newIndex (st .nodes))) (plainAll st cs (newIndex (st .nodes)) []) (k .list))
 

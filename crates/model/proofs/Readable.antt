@@ -12,13 +12,13 @@ use Rattle.model.specs.declared.Entry.{Entry}
 use Rattle.model.specs.declared.Totals.{Totals}
 use Rattle.model.specs.declared.Settings.{Settings}
 use Rattle.model.specs.Lists.{All, none, one, Ordered, nil, cons}
-use Rattle.model.specs.Tree.{Item, Tree, len, entries, slots, slotsOf, greatestKey, total}
+use Rattle.model.specs.Tree.{Item, Tree, len, entries, slots, greatestKey, total}
 use Rattle.model.specs.Frame.{Frame, leaf, interior, keysOf, nodesIn, branches, inTurn, framesFrom, rising, entriesRefusal}
 use Rattle.model.specs.Sound.{InLimits, Whole, Sorted, Fits, BranchFits, FrameFits}
 use Rattle.model.specs.Demands.{FramesRead}
 use Rattle.model.specs.Contracts.{flat}
 use Rattle.model.proofs.Lists.{all-append, all-left, all-right, all-map, all-of, all-head, all-tail, ordered-left, ordered-right}
-use Rattle.model.proofs.Trees.{flat-zero, slotsIn, Ends, separator-ends, ends-over, listTotals, total-list, totals-count, sizes-few, root-few, entries-few, once-count}
+use Rattle.model.proofs.Trees.{flat-zero, slotsIn, Ends, separator-ends, ends-over, listTotals, total-list, totals-count, sizes-few, root-few, entries-few, used-most}
 use Rattle.model.proofs.Frames.{read-written}
 
 -- KEYS
@@ -146,5 +146,5 @@ frames-read st x s =
       whole = s .whole;
       sorted = s .sorted;
       fit = s .fit;
-      nodes = omega (arith, once-count (st .nodes) (slotsOf x) (x .unused) (s .once), s .settings .bounded);
+      nodes = omega (arith, used-most st x s, s .settings .bounded);
     }))

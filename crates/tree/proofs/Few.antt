@@ -1,16 +1,19 @@
 -- A sound index is small: at most 2 ^ 19 entries, and every slot of it is one of the pool's, taken once. Assumes nothing.
 use mathlib.Core.Path.{_≡_, _∙_}
+use mathlib.Core.Bool.{cond}
 use mathlib.Core.List.{List}
 use Prim.Native.Nat.{ℕ, _+_, _≤_, _<_}
 use native.Mathlib.Omega.{arith}
 use native.Mathlib.Decide.{decLt}
 use native.Mathlib.Nat.{le-trans, mul-le-mul}
+use lib.Dec.{ltb}
 use lib.ListN.{length}
 use borrow.Author.Tests.{lt-ltb, le-ltb}
 use Rattle.model.specs.declared.Settings.{Settings}
 use Rattle.model.specs.Lists.{times, All}
 use Rattle.model.specs.Tree.{Index, entriesOf, slotsOf}
 use Rattle.model.specs.Sound.{Sound, Alone}
+use Rattle.model.proofs.Lists.{by-test, times-append}
 use Rattle.model.proofs.Trees.{root-few, entries-few, used-most}
 use Rattle.tree.specs.Bridge.{Apart}
 use Rattle.tree.proofs.Counts.{all-times}
@@ -24,13 +27,16 @@ entries-most st x s =
 
 -- SLOTS
 
-module _ (st : Settings) (x : Index) (s : Alone st x) where
-  -- a slot below N is used or unused, and not both
-  pub slot-inside : (t : ℕ) → t < st .nodes → times t (slotsOf x) + times t (x .unused) ≡ 1
-  slot-inside t h = s .once t ∙ rw (lt-ltb t (st .nodes) h)
+once-most : (s m n : ℕ) → n ≡ cond (ltb s m) 1 0 → n ≤ 1
+once-most s m n = by-test (λ (v : ℕ). n ≡ v → n ≤ 1) (ltb s m) (λ q e. omega arith) (λ q e. omega arith)
+
+module _ (st : Settings) {elsewhere : List ℕ} (x : Index) (s : Sound st elsewhere x) where
+  -- a slot is used once at most, and then not unused
+  pub slot-once : (t : ℕ) → times t (slotsOf x) + times t (x .unused) ≤ 1
+  slot-once t = omega (arith, once-most t (st .nodes) _ (s .once t), times-append t elsewhere (slotsOf x))
 
   pub slot-outside : (t : ℕ) → st .nodes ≤ t → times t (slotsOf x) + times t (x .unused) ≡ 0
-  slot-outside t h = s .once t ∙ rw (le-ltb t (st .nodes) h)
+  slot-outside t h = omega (arith, rw (le-ltb t (st .nodes) h) at (s .once t), times-append t elsewhere (slotsOf x))
 
   pub slot-low : (t : ℕ) → 0 < times t (slotsOf x) → t < st .nodes
   slot-low t h = by (decLt t (st .nodes))
@@ -43,8 +49,8 @@ module _ (st : Settings) (x : Index) (s : Alone st x) where
   slots-low = all-times (λ t. t < st .nodes) (slotsOf x) slot-low
 
   pub slots-apart : Apart (x .height) (x .root)
-  slots-apart t = by (decLt t (st .nodes))
-    where
-      by : Dec (t < st .nodes) → times t (slotsOf x) ≤ 1
-      by (yes g) = omega (arith, slot-inside t g)
-      by (no g) = let le : st .nodes ≤ t = omega arith in omega (arith, slot-outside t le)
+  slots-apart t = omega (arith, slot-once t)
+
+-- in a pool of its own, a slot below N is used or unused, and not both
+pub slot-inside : (st : Settings) (x : Index) → Alone st x → (t : ℕ) → t < st .nodes → times t (slotsOf x) + times t (x .unused) ≡ 1
+slot-inside st x s t h = s .once t ∙ rw (lt-ltb t (st .nodes) h)

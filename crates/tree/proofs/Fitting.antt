@@ -15,7 +15,7 @@ use Rattle.model.specs.declared.PoolSettings.{PoolSettings}
 use Rattle.model.specs.declared.Settings.{Settings}
 use Rattle.model.specs.Lists.{All, none, one}
 use Rattle.model.specs.Tree.{Item, Tree, Index, len, entries, slots, slotsOf, total}
-use Rattle.model.specs.Sound.{handed, InLimits, Whole, Fits, Alone}
+use Rattle.model.specs.Sound.{handed, InLimits, Whole, Fits, Sound}
 use Rattle.model.specs.Contracts.{flat}
 use Rattle.model.proofs.Lists.{all-append, all-left, all-right, all-map, all-of, all-head}
 use Rattle.model.proofs.Trees.{slotsIn, listTotals, total-list, totals-count, sizes-few, root-few}
@@ -126,7 +126,7 @@ module _ (st : Settings) where
 
 -- THE IMAGE
 
-module _ (st : Settings) (x : Index) (s : Alone st x) where
+module _ (st : Settings) {elsewhere : List ℕ} (x : Index) (s : Sound st elsewhere x) where
   index-fits : All (CellFits st) (cells (suc (x .height)) (x .root))
   index-fits =
       let low : All (λ t. t < 16384) (slotsOf x) = all-map (λ t h. omega (arith, s .settings .bounded)) (slots-low st x s) in
@@ -137,7 +137,7 @@ module _ (st : Settings) (x : Index) (s : Alone st x) where
   pub nodesOf-fit : (t : ℕ) → NodeFits (st .order) (nth (nodesOf (st .nodes) x) t)
   nodesOf-fit = nodesOf-have (NodeFits (st .order)) (record { kind = omega arith; few = omega arith; rows = none }) (st .nodes) x index-fits
 
-pub image-fits : (given : PoolSettings) (x : Index) → Alone (handed given) x → (i : ℕ) → getD (wordsOf given x) i 0 < 2 ^ 64
+pub image-fits : (given : PoolSettings) {elsewhere : List ℕ} (x : Index) → Sound (handed given) elsewhere x → (i : ℕ) → getD (wordsOf given x) i 0 < 2 ^ 64
 image-fits given x s =
     let st : Settings = handed given in
     let lim : InLimits (handed given) = s .settings in

@@ -9,7 +9,7 @@ use Rattle.slots.specs.Nodes as S
 use Rattle.model.specs.declared.Settings.{Settings}
 use Rattle.model.specs.Lists.{All, one}
 use Rattle.model.specs.Tree.{Tree, Index, len, depth, entriesOf, slotsOf}
-use Rattle.model.specs.Sound.{Whole, Rooted, Sorted, Fits, Once, Alone}
+use Rattle.model.specs.Sound.{Whole, Rooted, Sorted, Fits, Once, Sound, Alone}
 use Rattle.model.proofs.Lists.{all-left, all-head, all-tail}
 use Rattle.tree.specs.Bridge.{childOf, rowFor, cells, cellsOf, Stands, Holds, treeAt, unusedOf}
 use Rattle.tree.specs.Pool.{firstChild, heightAt, indexIn, Kinds, EachChild, Separates, Totalled, SoundNodes}
@@ -75,7 +75,8 @@ module _ (st : Settings) (ns : List S.Node) where
 
 -- THE INDEX
 
-module _ (st : Settings) (ns : List S.Node) (x : Index) (sound : Alone st x) (k : Holds ns (x .height) (x .root)) (u : unusedOf ns ≡ x .unused) where
+-- beside whatever is in use elsewhere
+module _ (st : Settings) {elsewhere : List ℕ} (ns : List S.Node) (x : Index) (sound : Sound st elsewhere x) (k : Holds ns (x .height) (x .root)) (u : unusedOf ns ≡ x .unused) where
   light-root : Light (x .height) (x .root)
   light-root = omega (arith, entries-most st x sound)
 
@@ -89,12 +90,15 @@ module _ (st : Settings) (ns : List S.Node) (x : Index) (sound : Alone st x) (k 
       ∙ ap (λ (t : Tree (x .height)). record { height = x .height; root = t; unused = unusedOf ns }) root
       ∙ ap (λ (l : List ℕ). record { height = x .height; root = x .root; unused = l }) u
 
+-- in a pool of its own
+module _ (st : Settings) (ns : List S.Node) (x : Index) (sound : Alone st x) (k : Holds ns (x .height) (x .root)) (u : unusedOf ns ≡ x .unused) where
   pub held-sound : SoundNodes st ns
   held-sound =
-      let e : x ≡ indexIn (st .root) ns = sym held-index in
+      let e : x ≡ indexIn (st .root) ns = sym (held-index st ns x sound k u) in
+      let light : Light (x .height) (x .root) = light-root st ns x sound k u in
       let at-root : (P : ℕ → Type 0) → P (x .root .slot) → P (st .root) = λ P p. subst P (sound .rootSlot) p in
       record {
-        kinds = subst (λ (y : Index). Kinds ns (y .height) (st .root)) e (at-root (Kinds ns (x .height)) (held-kinds ns (x .height) (x .root) light-root k));
+        kinds = subst (λ (y : Index). Kinds ns (y .height) (st .root)) e (at-root (Kinds ns (x .height)) (held-kinds ns (x .height) (x .root) light k));
         shallow = subst (λ (y : Index). depth y ≤ 8) e (sound .shallow);
         once = subst (λ (y : Index). Once (st .nodes) (slotsOf y) (y .unused)) e (sound .once);
         rooted = subst (λ (y : Index). Rooted st (y .height) (y .root)) e (sound .rooted);
@@ -102,7 +106,7 @@ module _ (st : Settings) (ns : List S.Node) (x : Index) (sound : Alone st x) (k 
         sorted = subst (λ (y : Index). Sorted (entriesOf y)) e (sound .sorted);
         fit = subst (λ (y : Index). All Fits (entriesOf y)) e (sound .fit);
         separators = subst (λ (y : Index). EachChild Separates ns (y .height) (st .root)) e
-            (at-root (EachChild Separates ns (x .height)) (held-each Separates own-separator ns (x .height) (x .root) light-root k));
+            (at-root (EachChild Separates ns (x .height)) (held-each Separates own-separator ns (x .height) (x .root) light k));
         totals = subst (λ (y : Index). EachChild Totalled ns (y .height) (st .root)) e
-            (at-root (EachChild Totalled ns (x .height)) (held-each Totalled own-totals ns (x .height) (x .root) light-root k));
+            (at-root (EachChild Totalled ns (x .height)) (held-each Totalled own-totals ns (x .height) (x .root) light k));
       }

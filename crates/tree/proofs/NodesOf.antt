@@ -14,7 +14,7 @@ use Rattle.slots.specs.Nodes as S
 use Rattle.model.specs.declared.Settings.{Settings}
 use Rattle.model.specs.Lists.{times, upFrom, All, none, one}
 use Rattle.model.specs.Tree.{Index, slotsOf}
-use Rattle.model.specs.Sound.{Alone}
+use Rattle.model.specs.Sound.{Sound, Alone}
 use Rattle.model.proofs.Lists.{by-test, all-both, all-map, hit-same, hit-other}
 use Rattle.tree.specs.Bridge.{Cell, cells, Stands, Holds, unusedOf, Blank, HoldsIndex}
 use Rattle.tree.specs.Pool.{nodeIn, nodesOf}
@@ -70,45 +70,52 @@ node-own (c ∷ cs) h =
 
 -- NODESOF HOLDS A SOUND INDEX
 
-module _ (st : Settings) (x : Index) (sound : Alone st x) where
-  slots-of : (s : ℕ) → times s (places (cellsIn x)) ≡ times s (slotsOf x)
-  slots-of s = ap (times s) (cell-places (suc (x .height)) (x .root))
+slots-of : (x : Index) (s : ℕ) → times s (places (cellsIn x)) ≡ times s (slotsOf x)
+slots-of x s = ap (times s) (cell-places (suc (x .height)) (x .root))
 
+-- a slot is of no kind exactly if the tree does not take it
+kind-none : (n : ℕ) (x : Index) (s : ℕ) → s < n → times s (slotsOf x) ≡ 0 → nth (nodesOf n x) s .kind ≡ 0
+kind-none n x s h e = ap (λ (n : S.Node). n .kind) (nth-nodesOf n x s h ∙ node-none (cellsIn x) s (slots-of x s ∙ e))
+
+nodesOf-blank : (n : ℕ) (x : Index) → Blank (nodesOf n x)
+nodesOf-blank n x s =
+    nodesOf-have (λ (n : S.Node). n .kind ≡ 0 → n ≡ unused) (λ e. refl) n x
+    (all-map (λ (c : Cell) (f : Full c) e. absurd (f e)) (full (suc (x .height)) (x .root))) s
+
+-- its tree, whatever is in use elsewhere ..
+module _ (st : Settings) {elsewhere : List ℕ} (x : Index) (sound : Sound st elsewhere x) where
   nodesOf-tree : Holds (nodesOf (st .nodes) x) (x .height) (x .root)
   nodesOf-tree =
-      all-both (λ c g e. nth-nodesOf (st .nodes) x (c .slot) (slot-low st x sound (c .slot) (rw (slots-of (c .slot)) at g)) ∙ e)
+      all-both (λ c g e. nth-nodesOf (st .nodes) x (c .slot) (slot-low st x sound (c .slot) (rw (slots-of x (c .slot)) at g)) ∙ e)
       (by-place (λ (c : Cell). 0 < times (c .slot) (places (cellsIn x))) (cellsIn x) (λ c g. g))
-      (node-own (cellsIn x) (λ s. omega (arith, slots-of s, slots-apart st x sound s)))
-
-  -- a slot is of kind 0 exactly if the tree does not take it
-  kind-none : (s : ℕ) → s < st .nodes → times s (slotsOf x) ≡ 0 → nth (nodesOf (st .nodes) x) s .kind ≡ 0
-  kind-none s h e = ap (λ (n : S.Node). n .kind) (nth-nodesOf (st .nodes) x s h ∙ node-none (cellsIn x) s (slots-of s ∙ e))
+      (node-own (cellsIn x) (λ s. omega (arith, slots-of x s, slots-apart st x sound s)))
 
   kind-some : (s : ℕ) → 0 < times s (slotsOf x) → nth (nodesOf (st .nodes) x) s .kind ≢ 0
   kind-some s h = used-tree (nodesOf (st .nodes) x) (x .height) (x .root) nodesOf-tree s h
 
+-- .. and its unused slots, where nothing is
+module _ (st : Settings) (x : Index) (sound : Alone st x) where
   same-unused : (s : ℕ) → times s (unusedOf (nodesOf (st .nodes) x)) ≡ times s (x .unused)
   same-unused s = by (decLt s (st .nodes)) (decLt 0 (times s (slotsOf x)))
     where
       by : Dec (s < st .nodes) → Dec (0 < times s (slotsOf x)) → times s (unusedOf (nodesOf (st .nodes) x)) ≡ times s (x .unused)
-      by (yes h) (yes u) = omega (arith, used-none (nodesOf (st .nodes) x) s (kind-some s u), slot-inside st x sound s h)
+      by (yes h) (yes u) = omega (arith, used-none (nodesOf (st .nodes) x) s (kind-some st x sound s u), slot-inside st x sound s h)
       by (yes h) (no u) =
           let z : times s (slotsOf x) ≡ 0 = omega arith in
           let in-range : s < length (nodesOf (st .nodes) x) = omega (arith, length-nodesOf (st .nodes) x) in
-          omega (arith, unused-one (nodesOf (st .nodes) x) s in-range (kind-none s h z), slot-inside st x sound s h)
+          omega (arith, unused-one (nodesOf (st .nodes) x) s in-range (kind-none (st .nodes) x s h z), slot-inside st x sound s h)
       by (no h) u =
           let le : st .nodes ≤ s = omega arith in
           let past : length (nodesOf (st .nodes) x) ≤ s = omega (arith, length-nodesOf (st .nodes) x) in
           omega (arith, unused-past (nodesOf (st .nodes) x) s past, slot-outside st x sound s le)
 
-  nodesOf-blank : Blank (nodesOf (st .nodes) x)
-  nodesOf-blank s =
-      nodesOf-have (λ (n : S.Node). n .kind ≡ 0 → n ≡ unused) (λ e. refl) (st .nodes) x
-      (all-map (λ (c : Cell) (f : Full c) e. absurd (f e)) (full (suc (x .height)) (x .root))) s
-
   pub nodesOf-hold : HoldsIndex (nodesOf (st .nodes) x) x
   nodesOf-hold =
-      record { tree = nodesOf-tree; unused = ascending-same (unused-up (nodesOf (st .nodes) x)) (sound .ascending) same-unused; blank = nodesOf-blank }
+      record {
+        tree = nodesOf-tree st x sound;
+        unused = ascending-same (unused-up (nodesOf (st .nodes) x)) (sound .ascending) same-unused;
+        blank = nodesOf-blank (st .nodes) x;
+      }
 
 -- NODES THAT HOLD A SOUND INDEX ARE NODESOF
 
@@ -123,7 +130,7 @@ module _ (st : Settings) (x : Index) (ns : List S.Node) (size : length ns ≡ st
   unheld s h e = k .blank s (by (ℕ-discrete (nth ns s .kind) 0))
     where
       one-unused : times s (unusedOf ns) ≡ 1
-      one-unused = ap (times s) (k .unused) ∙ omega (arith, slot-inside st x sound s h, slots-of st x sound s)
+      one-unused = ap (times s) (k .unused) ∙ omega (arith, slot-inside st x sound s h, slots-of x s)
 
       by : Dec (nth ns s .kind ≡ 0) → nth ns s .kind ≡ 0
       by (yes q) = q
