@@ -11,6 +11,7 @@ use Rattle.model.specs.Tree.{Tree, len}
 use Rattle.model.specs.Frame.{Frame, leaf, interior, nodesIn, branches, inTurn, framesFrom, framesOf, lineOf}
 use Rattle.model.specs.Sound.{Whole, Alone}
 use Rattle.model.proofs.Lists.{all-append, all-head, all-tail, all-map}
+use Rattle.model.proofs.Layers.{handed-roomy}
 use Rattle.model.proofs.Trees.{root-few, used-most}
 use Rattle.model.proofs.Readable.{branch-count}
 use Rattle.frame_text.specs.Entries.{startOf}
@@ -18,7 +19,7 @@ use Rattle.frame_text.specs.Contents.{ofEntry, ofBranch, contentsOf}
 use Rattle.frame_text.proofs.Coded.{line-long}
 use Rattle.frame.proofs.Noded.{frame-contents}
 use Rattle.frame.proofs.Walks.{frames-long}
-use Rattle.tree.specs.Pool.{SoundPool, settingsIn, indexOf}
+use Rattle.tree.specs.Pool.{SoundPool, givenIn, settingsIn, indexOf}
 use Rattle.tree.proofs.Pools.{sound-index}
 use Rattle.desk_promise.specs.Replies.{frameText, dumpText}
 
@@ -70,12 +71,15 @@ module _ (l : List ℕ) (s : SoundPool l) (long : length l ≡ 3360) where
   index : Alone st (indexOf l)
   index = sound-index l s
 
-  times : (a b : ℕ) → st .nodes * (a + b * st .order) ≡ st .nodes * a + b * (st .nodes * st .order)
-  times a b = mul-add (st .nodes) a (b * st .order) ∙ ap (st .nodes * a +_) (mul-left-comm (st .nodes) b (st .order))
+  times : (a b c : ℕ) → st .nodes * (a + b * c) ≡ st .nodes * a + b * (st .nodes * c)
+  times a b c = mul-add (st .nodes) a (b * c) ∙ ap (st .nodes * a +_) (mul-left-comm (st .nodes) b c)
 
-  -- nodes of at least four rows, in 416 words
-  sized : st .nodes * 2 + 6 * (st .nodes * st .order) ≡ 416
-  sized = omega (arith, long, s .exact, times 2 6)
+  -- slots for nodes of at least four rows, in 416 words
+  roomy : 2 * (st .nodes * st .order) ≤ st .nodes * st .rows
+  roomy = omega (arith, mul-le-mul-left (st .nodes) (handed-roomy (givenIn l)), mul-left-comm (st .nodes) 2 (st .order))
+
+  sized : st .nodes * 2 + 6 * (st .nodes * st .order) ≤ 416
+  sized = omega (arith, long, s .exact, times 2 3 (st .rows), roomy)
 
   four : st .nodes * 4 ≤ st .nodes * st .order
   four = mul-le-mul-left (st .nodes) (s .settings .wide)
@@ -92,4 +96,4 @@ module _ (l : List ℕ) (s : SoundPool l) (long : length l ≡ 3360) where
       let short : All (λ f. length (frameText f) ≤ w) fs =
       all-map (line-short (st .order))
       (frames-few st (indexOf l .height) 0 (indexOf l .root) (root-few st (indexOf l .height) (indexOf l .root) (index .rooted)) (index .whole)) in
-      omega (arith, text-short w fs short, mul-le-mul-right w many, times 3 56, sized)
+      omega (arith, text-short w fs short, mul-le-mul-right w many, times 3 56 (st .order), sized)

@@ -18,10 +18,11 @@ use Rattle.model.specs.Look.{listing, getAll, found, entering, openings, dueIn}
 use Rattle.model.specs.Look as M
 use Rattle.model.specs.Sound.{Rooted, Alone}
 use Rattle.model.proofs.Lists.{all-head}
+use Rattle.model.proofs.Layers.{handed-root}
 use Rattle.model.proofs.Scans.{openings-few, entering-thin, openings-law}
 use Rattle.tree.specs.Bridge.{nodeFor, treeAt}
 use Rattle.tree.specs.Sums.{sumRows, Sums, ToWeigh}
-use Rattle.tree.specs.Pool.{settingsIn, nodesIn, indexOf}
+use Rattle.tree.specs.Pool.{givenIn, settingsIn, nodesIn, indexOf}
 use Rattle.tree.proofs.Sums.{rows-total, sums-fit}
 use Rattle.tree.proofs.Few.{used-few, entries-most}
 use Rattle.tree.proofs.Pools.{sound-held, sound-holds-index, sound-index}
@@ -61,7 +62,7 @@ module _ (l : List ℕ) (st : Settings) (height : ℕ) (k : InPool l st height) 
       own (λ s h. ToWeigh s (words l) h (s .root))
       (record {
         held = sound-held l (k .sound);
-        slot = omega (arith, k .sound .settings .many);
+        slot = handed-root (givenIn l) (k .sound .settings);
         sums =
             subst (λ (n : S.Node). Sums (indexOf l .height) (n .rows)) (sym root-node) (sums-fit (indexOf l .height) (indexOf l .root) root-few (sound .fit));
       })

@@ -22,7 +22,7 @@ use Rattle.model.specs.declared.Wish.the-variants.{Always}
 use Rattle.model.specs.Plain.{references, Task, each, pairs, tasksFor}
 use Rattle.model.specs.Change.{noCeiling}
 use Rattle.model.specs.Refuse.{Call, tasksOf, isRemove, isEach, descend, needed, callRefusal, treeRefusal, refusal}
-use Rattle.model.specs.Sound.{handed, InLimits, Sound, Alone, Fits, Ascending, Once}
+use Rattle.model.specs.Sound.{rootFor, handed, InLimits, Sound, Alone, Fits, Ascending, Once}
 use Rattle.model.specs.Demands.{ReferenceFits, ActionFits, OperationFits, Lent}
 use Rattle.model.specs.Contracts.{Rising, Removing, Grants}
 use Rattle.model.proofs.Lists.{by-test, both-left, both-right, or-left, or-right, all-map, hit-same, hit-other}
@@ -252,6 +252,7 @@ run-up a zero = nil
 run-up a (suc m) = cons (run-over (suc a) m a (omega arith)) (run-up (suc a) m)
 
 pub new-sound : (given : PoolSettings) → InLimits (handed given) → Alone (handed given) (newIndex (given .nodes))
+unfolding rootFor
 new-sound given lim =
     record {
       settings = lim;

@@ -12,9 +12,17 @@ use Rattle.model.specs.Lists.{All, Ordered, times}
 use Rattle.model.specs.Frame.{Branch, Frame, leaf, interior}
 use Rattle.model.specs.Tree.{Node, Item, Tree, Index, len, depth, entriesOf, slotsOf}
 
--- what every layer is handed in a pool that was opened with some settings: a slot has room for twice order rows, and the root is in slot 0
+-- In a pool that was opened with some settings, a slot has room for twice order rows, and the root is in slot 0. Both are shut: what is used of them
+-- stands in proofs/Layers.
+unfoldable pub rowsFor : PoolSettings → ℕ
+rowsFor given = 2 * given .order
+
+unfoldable pub rootFor : PoolSettings → ℕ
+rootFor given = 0
+
+-- what every layer is handed there
 abbrev pub handed : PoolSettings → Settings
-handed given = record { nodes = given .nodes; order = given .order; minimum = given .minimum; rows = 2 * given .order; root = 0 }
+handed given = record { nodes = given .nodes; order = given .order; minimum = given .minimum; rows = rowsFor given; root = rootFor given }
 
 -- N is 8 to 16,384; order 4 to 32; minimum 1 up to (order + 1) / 2 rounded down
 pub record InLimits (st : Settings) : Type 0 where

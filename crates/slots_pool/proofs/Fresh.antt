@@ -9,9 +9,9 @@ use lib.Seq.{drop-length}
 use Rattle.words_runs.specs.Moves.{cleared}
 use Rattle.model.specs.declared.PoolSettings.{PoolSettings}
 use Rattle.model.specs.declared.Settings.{Settings}
-use Rattle.model.specs.Sound.{handed, InLimits}
+use Rattle.model.specs.Sound.{rootFor, handed, InLimits}
 use Rattle.slots_raw.specs.Slots.{width, headLen, headIn, Shape}
-use Rattle.slots.specs.Nodes.{Node, unused, nodes, nth, Held, putKind}
+use Rattle.slots.specs.Nodes.{Node, leafKind, unused, nodes, nth, Held, putKind}
 use Rattle.slots.specs.Contracts.{Now}
 use Rattle.slots_pool.specs.Header.{layoutNumber, headerOf}
 use Rattle.slots_pool.specs.Image.{image, newNodes}
@@ -76,13 +76,13 @@ module _ (given : PoolSettings) (W : List ℕ) (limits : InLimits (handed given)
   pub blank-held : Held st W
   blank-held = blank-nodes .0
 
-  -- and then a leaf in slot 0
-  pub new-words : (X : List ℕ) → Now st W X (putKind (nodes st W) 0 1) → X ≡ headerOf given ++ image (st .rows) (newNodes (st .nodes))
-  unfolding putKind
+  -- and then a leaf in the root's slot, which is slot 0
+  pub new-words : (X : List ℕ) → Now st W X (putKind (nodes st W) (st .root) leafKind) → X ≡ headerOf given ++ image (st .rows) (newNodes (st .nodes))
+  unfolding putKind rootFor
   new-words X now =
       let e : st .nodes ≡ suc (st .nodes - 1) = omega (arith, limits .many) in
       let is : nodes st X ≡ newNodes (st .nodes) =
-      now .is ∙ ap (λ (ns : List Node). putKind ns 0 1) (blank-nodes .1) ∙ ap (λ (m : ℕ). putKind (replicate m unused) 0 1) e in
+      now .is ∙ ap (λ (ns : List Node). putKind ns 0 leafKind) (blank-nodes .1) ∙ ap (λ (m : ℕ). putKind (replicate m unused) 0 leafKind) e in
       sym (image-of st X (now .held))
       ∙ ap (_++ image (st .rows) (nodes st X)) (now .header ∙ ap headIn blank)
       ∙ ap (λ (ns : List Node). headerOf given ++ image (st .rows) ns) is

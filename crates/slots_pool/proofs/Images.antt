@@ -12,6 +12,7 @@ use Rattle.words.proofs.Laws.{Bytes, words-injective, nil-of-length}
 use Rattle.model.specs.declared.PoolSettings.{PoolSettings}
 use Rattle.model.specs.declared.Settings.{Settings}
 use Rattle.model.specs.Sound.{handed, InLimits}
+use Rattle.model.proofs.Layers.{handed-roomy, handed-most}
 use Rattle.slots_raw.specs.declared.Row.{Row}
 use Rattle.slots_raw.specs.Slots.{chunks, rowsOf, width, headLen, headIn, Raw, rawOf, slots, rawAt}
 use Rattle.slots.specs.Nodes.{Node, unused, nodeOf, nodes, nth, pad, rawFor, Canon, Held}
@@ -156,8 +157,8 @@ pub image-nodes : (given : PoolSettings) (ns : List Node) → let st = handed gi
     → Held st (headerOf given ++ image (st .rows) ns) × (nodes st (headerOf given ++ image (st .rows) ns) ≡ ns)
 image-nodes given ns limits all fit =
     let st : Settings = handed given in
-    let roomy : 2 * st .order ≤ st .rows = omega arith in
-    let most : st .rows ≤ 64 = omega (arith, limits .narrow) in (
+    let roomy : 2 * st .order ≤ st .rows = handed-roomy given in
+    let most : st .rows ≤ 64 = handed-most given limits in (
       image-held st (headerOf given) ns limits roomy most refl all fit,
       image-is st (headerOf given) ns limits roomy most refl all fit,
     )

@@ -19,6 +19,7 @@ use Rattle.model.specs.declared.PoolSettings.{PoolSettings}
 use Rattle.model.specs.Lists.{upFrom}
 use Rattle.model.specs.Tree.{newIndex}
 use Rattle.model.specs.Sound.{handed, InLimits}
+use Rattle.model.proofs.Layers.{handed-most}
 use Rattle.model.proofs.Calls.{new-sound}
 use Rattle.tree.specs.Bridge.{Cell}
 use Rattle.tree.specs.Pool.{poolLen, nodeIn, nodesOf, imageOf, SoundPool}
@@ -48,7 +49,7 @@ tells-limits given r n o t =
 
 pub slots-small : (given : PoolSettings) → InLimits (handed given) → given .nodes * width (handed given .rows) ≤ 3178496
 slots-small given lim =
-    mul-le-mul {n₁ = given .nodes} {m₁ = width (handed given .rows)} {n₂ = 16384} {m₂ = 194} (lim .bounded) (omega (arith, lim .narrow))
+    mul-le-mul {n₁ = given .nodes} {m₁ = width (handed given .rows)} {n₂ = 16384} {m₂ = 194} (lim .bounded) (omega (arith, handed-most given lim))
 
 -- A NEW INDEX: its nodes are an empty leaf, and then unused ones
 

@@ -18,8 +18,9 @@ use Rattle.model.specs.declared.PoolSettings.{PoolSettings}
 use Rattle.model.specs.declared.Settings.{Settings}
 use Rattle.model.specs.Tree.{Index}
 use Rattle.model.specs.Sound.{handed, InLimits, Alone}
+use Rattle.model.proofs.Layers.{handed-roomy, handed-most}
 use Rattle.tree.specs.Bridge.{HoldsIndex}
-use Rattle.tree.specs.Pool.{poolLen, nodesOf, wordsOf, imageOf, givenIn, settingsIn, nodesIn, indexOf, Zeros, SoundNodes, SoundPool}
+use Rattle.tree.specs.Pool.{poolLen, nodesOf, wordsOf, imageOf, indexIn, givenIn, settingsIn, nodesIn, indexOf, Zeros, SoundNodes, SoundPool}
 use Rattle.tree.proofs.Unused.{unused-up}
 use Rattle.tree.proofs.SoundHolds.{slot-read, sound-holds}
 use Rattle.tree.proofs.HoldsSound.{held-index, held-sound}
@@ -45,7 +46,7 @@ held-bytes given x W l h e k s w n b =
 -- a pool of the exact length has the shape of its settings
 pub exact-shape : (given : PoolSettings) (l : List ℕ) → InLimits (handed given) → length l ≡ poolLen given → Shape (handed given) (words l)
 exact-shape given l lim e =
-    record { limits = lim; roomy = omega arith; most = omega (arith, lim .narrow); size = omega (arith, length-words l) }
+    record { limits = lim; roomy = handed-roomy given; most = handed-most given lim; size = omega (arith, length-words l) }
 
 module _ (l : List ℕ) (s : SoundPool l) where
   pub sound-held : Held (settingsIn l) (words l)
@@ -94,7 +95,7 @@ module _ (given : PoolSettings) (x : Index) (s : Alone (handed given) x) where
   st = handed given
 
   rows-few : (t : ℕ) → length (nth (nodesOf (st .nodes) x) t .rows) ≤ st .rows
-  rows-few t = omega (arith, nodesOf-fit st x s t .few)
+  rows-few t = omega (arith, nodesOf-fit st x s t .few, handed-roomy given)
 
   words-held : Held st (wordsOf given x)
   words-held = image-nodes given (nodesOf (st .nodes) x) (s .settings) (length-nodesOf (st .nodes) x) (λ t g. rows-few t) .0
@@ -119,7 +120,9 @@ module _ (given : PoolSettings) (x : Index) (s : Alone (handed given) x) where
   image-holds = subst (λ (ns : List S.Node). HoldsIndex ns x) (sym image-read) (nodesOf-hold st x s)
 
   pub image-index : indexOf (imageOf given x) ≡ x
-  image-index = held-index st (nodesIn (imageOf given x)) x s (image-holds .tree) (image-holds .unused)
+  image-index =
+      ap (λ (z : Settings). indexIn (z .root) (nodesIn (imageOf given x))) image-settings
+      ∙ held-index st (nodesIn (imageOf given x)) x s (image-holds .tree) (image-holds .unused)
 
   pub image-bytes : Bytes (imageOf given x)
   image-bytes = bytesOf-bytes (wordsOf given x)

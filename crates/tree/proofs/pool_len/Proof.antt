@@ -5,12 +5,15 @@ use native.Mathlib.Omega.{arith}
 use Rattle.slots_raw.specs.Slots.{headLen, width}
 use Rattle.model.specs.declared.Settings.{Settings}
 use Rattle.model.specs.Sound.{handed}
+use Rattle.model.proofs.Layers.{handed-most}
 use Rattle.tree.proofs.Opening.{slots-small}
 use Rattle.tree.proofs.pool_len.Statement.{statement}
 use Rattle.tree.proofs.pool_len.Tie as tie
 
 width-requires : tie.Need-width-requires
-width-requires c κs = omega (arith, ap (λ (st : Settings). st .rows) (c .handed .ensures), c .before .pre .narrow)
+width-requires c κs =
+    let start = c .before in
+    omega (arith, ap (λ (st : Settings). st .rows) (c .handed .ensures), handed-most (start .args .given) (start .pre))
 
 -- the width of a slot is that of the settings
 wide : (c : tie.After-width) → c .width .result ≡ width (handed (c .before .before .args .given) .rows)
