@@ -8,7 +8,7 @@ use native.Mathlib.Omega.{arith}
 use lib.ListN.{length, take, drop, set, take-append-drop}
 use lib.Seq.{getD-set-other}
 use Rattle.slots_raw.specs.declared.Row.{Row}
-use Rattle.slots.specs.Nodes.{nth, unused, withRows, splitNodes}
+use Rattle.slots.specs.Nodes.{unusedKind, interiorKind, nth, unused, withRows, splitNodes}
 use Rattle.slots.specs.Nodes as S
 use Rattle.slots_find.specs.Search.{Lowest}
 use Rattle.slots.proofs.Nodes.{nth-same}
@@ -52,13 +52,13 @@ module _ {r : ℕ} {ns : List S.Node} {h : ℕ} {t : Tree h} {a : ℕ} (p : Top 
   node : nth ns r ≡ nodeFor h t
   node = ap (nth ns) (sym (p .root)) ∙ all-head (p .holds)
 
-  used : nth ns r .kind ≢ 0
+  used : nth ns r .kind ≢ unusedKind
   used = node-used ns h r t node
 
   root-in : r < length ns
   root-in = used-in ns r used
 
-  a-free : nth ns a .kind ≡ 0
+  a-free : nth ns a .kind ≡ unusedKind
   a-free = p .first .here (p .inside)
 
   a-root : a ≢ r
@@ -86,7 +86,7 @@ module _ {r : ℕ} {ns : List S.Node} {h : ℕ} {t : Tree h} {a : ℕ} (p : Top 
 
   -- THE UPPER HALF IN ITS OWN SLOT
   module _ {b : ℕ} (second : Lowest (moved r ns a) b) (b-in : b < length (moved r ns a)) where
-    b-free : nth (moved r ns a) b .kind ≡ 0
+    b-free : nth (moved r ns a) b .kind ≡ unusedKind
     b-free = second .here b-in
 
     pub a-b : a ≢ b
@@ -119,7 +119,7 @@ module _ {r : ℕ} {ns : List S.Node} {h : ℕ} {t : Tree h} {a : ℕ} (p : Top 
     whole-is : whole ≡ nodeFor h t
     whole-is = moved-here ∙ node
 
-    whole-used : whole .kind ≢ 0
+    whole-used : whole .kind ≢ unusedKind
     whole-used = node-used (moved r ns a) h a t whole-is
 
     a-in : a < length (moved r ns a)
@@ -146,7 +146,7 @@ module _ {r : ℕ} {ns : List S.Node} {h : ℕ} {t : Tree h} {a : ℕ} (p : Top 
     pub split-bare : nth split r .rows ≡ []
     split-bare = ap (λ (m : S.Node). m .rows) split-root
 
-    split-used : nth split r .kind ≢ 0
+    split-used : nth split r .kind ≢ unusedKind
     split-used z = used (ap (λ (m : S.Node). m .kind) (sym split-root) ∙ z)
 
     split-in : r < length split
@@ -162,7 +162,7 @@ module _ {r : ℕ} {ns : List S.Node} {h : ℕ} {t : Tree h} {a : ℕ} (p : Top 
         ∙ unused-taken (moved r ns a) b high second b-in whole-used .1 ∙ ap others moved-unused
 
     -- a slot in use is neither a nor b
-    stood : (x : ℕ) → nth ns x .kind ≢ 0 → x ≢ r → nth split x ≡ nth ns x
+    stood : (x : ℕ) → nth ns x .kind ≢ unusedKind → x ≢ r → nth split x ≡ nth ns x
     stood x u x-root =
         let x-a : x ≢ a = λ e. u (ap (λ (y : ℕ). nth ns y .kind) e ∙ a-free) in
         let same : nth (moved r ns a) x ≡ nth ns x = put-other ns a (nth ns r) r bare x x-a x-root in
@@ -219,7 +219,7 @@ module _ {r : ℕ} {ns : List S.Node} {h : ℕ} {t : Tree h} {a : ℕ} (p : Top 
     above = set split r (nodeFor (suc h) parent)
 
     pub crowned-is : crowned r split h a b ≡ above
-    crowned-is = λ j. set split r (record { kind = 2; rows = lower-row j ∷ upper-row j ∷ [] })
+    crowned-is = λ j. set split r (record { kind = interiorKind; rows = lower-row j ∷ upper-row j ∷ [] })
 
     -- the root's slot is in neither half
     parted : (x : ℕ) → times x (slotsIn h low-items) + times x (slotsIn h high-items) ≡ times x (slotsIn h (t .items))

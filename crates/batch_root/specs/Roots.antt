@@ -5,7 +5,7 @@ use mathlib.Core.Logic.{_≢_}
 use mathlib.Core.List.{List, [], _∷_}
 use lib.ListN.{length, set}
 use Rattle.slots_raw.specs.Slots.{headIn}
-use Rattle.slots.specs.Nodes.{interiorKind, Held, nodes, nth, rowsAt, put2, withRows}
+use Rattle.slots.specs.Nodes.{unusedKind, interiorKind, Held, nodes, nth, rowsAt, put2, withRows}
 use Rattle.slots.specs.Nodes as S
 use Rattle.model.specs.declared.Settings.{Settings}
 use Rattle.model.specs.Lists.{All}
@@ -60,8 +60,8 @@ pub record ToMove (st : Settings) (W : List ℕ) (low : ℕ) : Type 0 where
   pub held : Held st W
   pub empty : Blank (nodes st W)
   pub slot : low < st .nodes
-  pub free : nth (nodes st W) low .kind ≡ 0
-  pub used : nth (nodes st W) (st .root) .kind ≢ 0
+  pub free : nth (nodes st W) low .kind ≡ unusedKind
+  pub used : nth (nodes st W) (st .root) .kind ≢ unusedKind
 
 abbrev pub moved : ℕ → List S.Node → ℕ → List S.Node
 moved root ns new = put2 ns new (nth ns root) root (withRows (nth ns root) [])

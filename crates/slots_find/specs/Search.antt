@@ -11,7 +11,7 @@ use Rattle.slots_raw.specs.declared.Row.{Row}
 use Rattle.slots_find.specs.declared.Found.{Found}
 use Rattle.slots_find.specs.declared.Found.the-variants.{At, Before}
 use Rattle.slots_raw.specs.Slots.{blank}
-use Rattle.slots.specs.Nodes.{Node, Held, nth, rowsAt}
+use Rattle.slots.specs.Nodes.{unusedKind, Node, Held, nth, rowsAt}
 
 -- ---- a key
 
@@ -60,10 +60,10 @@ pub record Sought (l : List Row) (k : ℕ) (r : Found) : Type 0 where
 
 -- no slot below `from` is unused
 abbrev pub Below : List Node → ℕ → Type 0
-Below ns from = (t : ℕ) → t < from → nth ns t .kind ≢ 0
+Below ns from = (t : ℕ) → t < from → nth ns t .kind ≢ unusedKind
 
 -- r is the lowest unused slot, or the number of slots
 pub record Lowest (ns : List Node) (r : ℕ) : Type 0 where
   pub within : r ≤ length ns
   pub before : Below ns r
-  pub here : r < length ns → nth ns r .kind ≡ 0
+  pub here : r < length ns → nth ns r .kind ≡ unusedKind

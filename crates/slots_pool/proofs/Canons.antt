@@ -8,7 +8,7 @@ use mathlib.Core.List.{List, [], _∷_, _++_}
 use lib.ListN.{length, take, drop, getD, replicate, take-append-drop, length-map, List·getD-map, List·getD-eq-default}
 use lib.Seq.{length-take-le}
 use Rattle.model.specs.declared.Settings.{Settings}
-use Rattle.slots_raw.specs.Slots.{chunks, rowOf, rowsOf, blank, width, headLen, Raw, rawOf, slots, rawAt, Shape}
+use Rattle.slots_raw.specs.Slots.{chunks, rowOf, rowsOf, blank, width, headLen, slotHead, rowLen, Raw, rawOf, slots, rawAt, Shape}
 use Rattle.slots.specs.Nodes.{unused, nodeOf, nodes, nth, pad, rawFor, Canon, Held}
 use Rattle.slots_raw.proofs.Chunks.{length-chunks}
 use Rattle.slots.proofs.Pads.{drop-pad}
@@ -22,7 +22,7 @@ unfolding rawAt slots rawOf rowsOf
 length-cells st W s =
     let cs = chunks (width (st .rows)) (st .nodes) (drop headLen W) in
     ap (λ (r : Raw). length (r .cells)) (List·getD-map (rawOf (st .rows)) cs s [])
-    ∙ length-map (chunks 3 (st .rows) (drop 2 (getD cs s []))) rowOf ∙ length-chunks 3 (st .rows) (drop 2 (getD cs s []))
+    ∙ length-map (chunks rowLen (st .rows) (drop slotHead (getD cs s []))) rowOf ∙ length-chunks rowLen (st .rows) (drop slotHead (getD cs s []))
 
 -- a slot whose rows fit, and are blank past its count
 pub canon-tail : (st : Settings) (W : List ℕ) (s : ℕ) → rawAt st W s .count ≤ st .rows

@@ -14,7 +14,7 @@ use Rattle.model.specs.declared.Settings.{Settings}
 use Rattle.model.specs.Sound.{handed, InLimits}
 use Rattle.model.proofs.Layers.{handed-roomy, handed-most}
 use Rattle.slots_raw.specs.declared.Row.{Row}
-use Rattle.slots_raw.specs.Slots.{chunks, rowsOf, width, headLen, headIn, Raw, rawOf, slots, rawAt}
+use Rattle.slots_raw.specs.Slots.{chunks, rowsOf, width, headLen, rowLen, headIn, Raw, rawOf, slots, rawAt}
 use Rattle.slots.specs.Nodes.{Node, unused, nodeOf, nodes, nth, pad, rawFor, Canon, Held}
 use Rattle.slots_pool.specs.Header.{headerOf}
 use Rattle.slots_pool.specs.Image.{flatRows, block, image}
@@ -24,7 +24,7 @@ use Rattle.slots_pool.proofs.Canons.{raw-empty, held-each}
 
 -- ---- words, slots, and the same words
 
-pub flat-rows : (n : ℕ) (l : List ℕ) → length l ≡ n * 3 → flatRows (rowsOf n l) ≡ l
+pub flat-rows : (n : ℕ) (l : List ℕ) → length l ≡ n * rowLen → flatRows (rowsOf n l) ≡ l
 unfolding flatRows rowsOf chunks
 flat-rows zero l e = sym (nil-of-length l e)
 flat-rows (suc n) [] e = absurd (omega arith)
@@ -72,7 +72,7 @@ bytes-same st k a b ea eb ha hb h g e n = words-injective k a b ea eb ha hb (wor
 
 -- ---- nodes, words, and the same nodes
 
-length-flat : (l : List Row) → length (flatRows l) ≡ length l * 3
+length-flat : (l : List Row) → length (flatRows l) ≡ length l * rowLen
 unfolding flatRows
 length-flat [] = refl
 length-flat (r ∷ l) = omega (arith, length-flat l)

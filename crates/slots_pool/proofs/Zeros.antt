@@ -13,7 +13,7 @@ use Rattle.model.specs.declared.Settings.{Settings}
 use Rattle.model.proofs.Lists.{both-left, both-right}
 use Rattle.slots_raw.specs.Over.{part}
 use Rattle.model.specs.Answer.{Tells}
-use Rattle.slots_raw.specs.Slots.{rowsOf, blank, width, rawOf, rawAt, Shape}
+use Rattle.slots_raw.specs.Slots.{rowsOf, blank, width, slotHead, rowLen, rawOf, rawAt, Shape}
 use Rattle.slots_raw.specs.Contracts.{Base}
 use Rattle.slots.specs.Nodes.{unused, pad, rawFor}
 use Rattle.slots_pool.specs.Image.{flatRows, block}
@@ -45,17 +45,17 @@ tells l n e f g = record {
 
 -- ---- blank rows and unused slots
 
-flat-blank : (n : ℕ) → flatRows (replicate n blank) ≡ replicate (n * 3) 0
+flat-blank : (n : ℕ) → flatRows (replicate n blank) ≡ replicate (n * rowLen) 0
 unfolding flatRows
 flat-blank zero = refl
 flat-blank (suc n) =
-    let e : suc n * 3 ≡ suc (suc (suc (n * 3))) = omega arith in
+    let e : suc n * rowLen ≡ suc (suc (suc (n * rowLen))) = omega arith in
     rw e (ap (λ (l : List ℕ). 0 ∷ 0 ∷ 0 ∷ l) (flat-blank n))
 
 pub block-unused : (m : ℕ) → block (rawFor m unused) ≡ replicate (width m) 0
 unfolding block rawFor pad
 block-unused m =
-    let e : width m ≡ suc (suc (m * 3)) = omega arith in
+    let e : width m ≡ suc (suc (m * rowLen)) = omega arith in
     rw e (ap (λ (l : List ℕ). 0 ∷ 0 ∷ l) (ap (λ (n : ℕ). flatRows (replicate n blank)) (sub-zero (m)) ∙ flat-blank (m)))
 
 raw-zeros : (m : ℕ) → rawOf m (replicate (width m) 0) ≡ rawFor m unused
@@ -66,15 +66,15 @@ raw-zeros m = ap (rawOf m) (sym (block-unused m)) ∙ raw-back m unused (omega a
 module _ (st : Settings) (W : List ℕ) (s b : ℕ) (sh : Shape st W) (h : s < st .nodes) (at : Base st W s b) where
   -- the rows from row n on
   pub tail-tells : (n : ℕ) → n ≤ st .rows
-      → Tells (allZero (take ((st .rows - n) * 3) (drop (b + (2 + n * 3)) W))) (drop n (rawAt st W s .cells) ≡ replicate (st .rows - n) blank)
+      → Tells (allZero (take ((st .rows - n) * rowLen) (drop (b + (slotHead + n * rowLen)) W))) (drop n (rawAt st W s .cells) ≡ replicate (st .rows - n) blank)
   unfolding part
   tail-tells n g =
       let k = st .rows - n in
-      let l = part W (b + (2 + n * 3)) (k * 3) in
-      let size : length l ≡ k * 3 = length-part W (b + (2 + n * 3)) (k * 3) (omega arith) in
+      let l = part W (b + (slotHead + n * rowLen)) (k * rowLen) in
+      let size : length l ≡ k * rowLen = length-part W (b + (slotHead + n * rowLen)) (k * rowLen) (omega arith) in
       let rows : rowsOf k l ≡ drop n (rawAt st W s .cells) =
       rows-part st W s sh h b n k (at .start) (omega arith) ∙ last-part (rawAt st W s .cells) n k (omega (arith, length-cells st W s)) in
-      tells l (k * 3) size (λ z. sym rows ∙ ap (rowsOf k) z ∙ zero-rows k) (λ a. sym (flat-rows k l size) ∙ ap flatRows (rows ∙ a) ∙ flat-blank k)
+      tells l (k * rowLen) size (λ z. sym rows ∙ ap (rowsOf k) z ∙ zero-rows k) (λ a. sym (flat-rows k l size) ∙ ap flatRows (rows ∙ a) ∙ flat-blank k)
 
   -- the whole slot
   pub slot-tells : Tells (allZero (take (width (st .rows)) (drop b W))) (rawAt st W s ≡ rawFor (st .rows) unused)

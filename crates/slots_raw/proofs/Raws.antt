@@ -11,7 +11,7 @@ use Rattle.words.proofs.Laws.{stores, stores-sets}
 use Rattle.model.specs.declared.Settings.{Settings}
 use Rattle.slots_raw.specs.declared.Row.{Row}
 use Rattle.slots_raw.specs.Over.{over, part}
-use Rattle.slots_raw.specs.Slots.{chunks, rowOf, rowsOf, blank, Raw, rawOf, width, headLen, slots, rawAt, withCells, withHead, putCells, putHead, Shape}
+use Rattle.slots_raw.specs.Slots.{chunks, rowOf, rowsOf, blank, Raw, rawOf, width, headLen, slotHead, rowLen, slots, rawAt, withCells, withHead, putCells, putHead, Shape}
 use Rattle.slots_raw.specs.Contracts.{Cells, Base, Wrote}
 use Rattle.slots_raw.proofs.Over.{length-part, length-over, drop-over, take-over, getD-over, getD-part, part-inside, part-drop, map-over, map-part, map-set}
 use Rattle.slots_raw.proofs.Chunks.{chunks-over, chunks-part, getD-chunks, piece-over, piece-room}
@@ -34,38 +34,38 @@ stores-over vs v l p h =
     ∙ stores-sets (v ∷ vs) l p 0 ∙ ap (λ (j : ℕ). sets l j (v ∷ vs)) z ∙ sets-eq (v ∷ vs) l p h
 
 -- zero words are blank rows
-pub zero-rows : (n : ℕ) → rowsOf n (replicate (n * 3) 0) ≡ replicate n blank
+pub zero-rows : (n : ℕ) → rowsOf n (replicate (n * rowLen) 0) ≡ replicate n blank
 unfolding rowsOf chunks
 zero-rows zero = refl
 zero-rows (suc n) =
-    let e : suc n * 3 ≡ suc (suc (suc (n * 3))) = omega arith in
+    let e : suc n * rowLen ≡ suc (suc (suc (n * rowLen))) = omega arith in
     rw e (ap (blank ∷_) (zero-rows n))
 
 -- ---- the words of one slot
 
 -- rows are replaced
-rows-within : (rows : ℕ) (b : List ℕ) (i n : ℕ) (new : List ℕ) → length b ≡ width rows → i + n ≤ rows → length new ≡ n * 3
-    → rawOf rows (over b (2 + i * 3) (n * 3) new) ≡ withCells (rawOf rows b) (over (rawOf rows b .cells) i n (rowsOf n new))
+rows-within : (rows : ℕ) (b : List ℕ) (i n : ℕ) (new : List ℕ) → length b ≡ width rows → i + n ≤ rows → length new ≡ n * rowLen
+    → rawOf rows (over b (slotHead + i * rowLen) (n * rowLen) new) ≡ withCells (rawOf rows b) (over (rawOf rows b .cells) i n (rowsOf n new))
 unfolding rawOf rowsOf
 rows-within rows b i n new e h k =
-    let long : 2 ≤ length b = omega arith in
-    let kind : getD (over b (2 + i * 3) (n * 3) new) 0 0 ≡ getD b 0 0 = getD-over b 2 (i * 3) (n * 3) new 0 0 long (omega arith) in
-    let count : getD (over b (2 + i * 3) (n * 3) new) 1 0 ≡ getD b 1 0 = getD-over b 2 (i * 3) (n * 3) new 1 0 long (omega arith) in
-    let cells : map rowOf (chunks 3 (rows) (drop 2 (over b (2 + i * 3) (n * 3) new))) ≡ over (map rowOf (chunks 3 (rows) (drop 2 b))) i n (map rowOf (chunks 3 n new)) =
-    ap (λ (l : List ℕ). map rowOf (chunks 3 (rows) l)) (drop-over b 2 (i * 3) (n * 3) new long)
-    ∙ ap (map rowOf) (chunks-over 3 i n (rows) (drop 2 b) h (omega (arith, length-drop 2 b)) new k)
-    ∙ map-over rowOf (chunks 3 (rows) (drop 2 b)) i n (chunks 3 n new) in
+    let long : slotHead ≤ length b = omega arith in
+    let kind : getD (over b (slotHead + i * rowLen) (n * rowLen) new) 0 0 ≡ getD b 0 0 = getD-over b slotHead (i * rowLen) (n * rowLen) new 0 0 long (omega arith) in
+    let count : getD (over b (slotHead + i * rowLen) (n * rowLen) new) 1 0 ≡ getD b 1 0 = getD-over b slotHead (i * rowLen) (n * rowLen) new 1 0 long (omega arith) in
+    let cells : map rowOf (chunks rowLen (rows) (drop slotHead (over b (slotHead + i * rowLen) (n * rowLen) new))) ≡ over (map rowOf (chunks rowLen (rows) (drop slotHead b))) i n (map rowOf (chunks rowLen n new)) =
+    ap (λ (l : List ℕ). map rowOf (chunks rowLen (rows) l)) (drop-over b slotHead (i * rowLen) (n * rowLen) new long)
+    ∙ ap (map rowOf) (chunks-over rowLen i n (rows) (drop slotHead b) h (omega (arith, length-drop slotHead b)) new k)
+    ∙ map-over rowOf (chunks rowLen (rows) (drop slotHead b)) i n (chunks rowLen n new) in
     λ j. record { kind = kind j; count = count j; cells = cells j }
 
 -- and read
 rows-read : (rows : ℕ) (b : List ℕ) (i n : ℕ) → length b ≡ width rows → i + n ≤ rows
-    → rowsOf n (part (drop 2 b) (i * 3) (n * 3)) ≡ part (rawOf rows b .cells) i n
+    → rowsOf n (part (drop slotHead b) (i * rowLen) (n * rowLen)) ≡ part (rawOf rows b .cells) i n
 unfolding rowsOf rawOf
 rows-read rows b i n e g =
-    ap (map rowOf) (chunks-part 3 i n (rows) (drop 2 b) g (omega (arith, length-drop 2 b))) ∙ map-part rowOf (chunks 3 (rows) (drop 2 b)) i n
+    ap (map rowOf) (chunks-part rowLen i n (rows) (drop slotHead b) g (omega (arith, length-drop slotHead b))) ∙ map-part rowOf (chunks rowLen (rows) (drop slotHead b)) i n
 
 -- kind and count are replaced
-headed : (rows : ℕ) (b : List ℕ) (k c : ℕ) → rawOf rows (over b 0 2 (k ∷ c ∷ [])) ≡ withHead (rawOf rows b) k c
+headed : (rows : ℕ) (b : List ℕ) (k c : ℕ) → rawOf rows (over b 0 slotHead (k ∷ c ∷ [])) ≡ withHead (rawOf rows b) k c
 unfolding rawOf over
 headed rows b k c = refl
 
@@ -138,47 +138,47 @@ module _ (st : Settings) (W : List ℕ) (s : ℕ) (sh : Shape st W) (h : s < st 
 
   -- n rows from row i on
   pub rows-part : (b i n : ℕ) → b ≡ headLen + s * width (st .rows) → i + n ≤ st .rows
-      → rowsOf n (part W (b + (2 + i * 3)) (n * 3)) ≡ part (rawAt st W s .cells) i n
+      → rowsOf n (part W (b + (slotHead + i * rowLen)) (n * rowLen)) ≡ part (rawAt st W s .cells) i n
   rows-part b i n eb g =
       let S = width (st .rows) in
-      let p : b + (2 + i * 3) ≡ headLen + (s * width (st .rows) + (2 + i * 3)) = omega arith in
-      let words : part W (b + (2 + i * 3)) (n * 3) ≡ part (drop 2 block) (i * 3) (n * 3) =
-      ap (λ (j : ℕ). part W j (n * 3)) p ∙ part-drop W headLen (s * S + (2 + i * 3)) (n * 3)
-      ∙ part-inside (drop headLen W) (s * S) S (2 + i * 3) (n * 3) room (omega arith)
-      ∙ ap (λ (l : List ℕ). part l (2 + i * 3) (n * 3)) (sym block-part) ∙ part-drop block 2 (i * 3) (n * 3) in
+      let p : b + (slotHead + i * rowLen) ≡ headLen + (s * width (st .rows) + (slotHead + i * rowLen)) = omega arith in
+      let words : part W (b + (slotHead + i * rowLen)) (n * rowLen) ≡ part (drop slotHead block) (i * rowLen) (n * rowLen) =
+      ap (λ (j : ℕ). part W j (n * rowLen)) p ∙ part-drop W headLen (s * S + (slotHead + i * rowLen)) (n * rowLen)
+      ∙ part-inside (drop headLen W) (s * S) S (slotHead + i * rowLen) (n * rowLen) room (omega arith)
+      ∙ ap (λ (l : List ℕ). part l (slotHead + i * rowLen) (n * rowLen)) (sym block-part) ∙ part-drop block slotHead (i * rowLen) (n * rowLen) in
       ap (rowsOf n) words ∙ rows-read (st .rows) block i n length-block g ∙ ap (λ (r : Raw). part (r .cells) i n) (sym raw-block)
 
   -- row i, word by word
-  pub row-at : (p i : ℕ) → p ≡ headLen + s * width (st .rows) + (2 + i * 3) → i < st .rows
+  pub row-at : (p i : ℕ) → p ≡ headLen + s * width (st .rows) + (slotHead + i * rowLen) → i < st .rows
       → record { key = getD W p 0; body = getD W (p + 1) 0; size = getD W (p + 2) 0 } ≡ getD (rawAt st W s .cells) i blank
   unfolding rowsOf chunks
   row-at p i ep g =
       let z : p + 0 ≡ p = omega arith in
       let z′ : i + 0 ≡ i = omega arith in
-      let word : (k : ℕ) → k < 3 → getD W (p + k) 0 ≡ getD (take 3 (part W p 3)) k 0 =
-      λ k g. sym (getD-take 3 (part W p 3) k 0 g ∙ getD-part W p 3 k 0 g) in
-      let first : getD W p 0 ≡ getD (take 3 (part W p 3)) 0 0 = ap (λ (j : ℕ). getD W j 0) (sym z) ∙ word 0 (omega arith) in
-      let second : getD W (p + 1) 0 ≡ getD (take 3 (part W p 3)) 1 0 = word 1 (omega arith) in
-      let third : getD W (p + 2) 0 ≡ getD (take 3 (part W p 3)) 2 0 = word 2 (omega arith) in
-      let row : record { key = getD W p 0; body = getD W (p + 1) 0; size = getD W (p + 2) 0 } ≡ rowOf (take 3 (part W p 3)) =
+      let word : (k : ℕ) → k < rowLen → getD W (p + k) 0 ≡ getD (take rowLen (part W p rowLen)) k 0 =
+      λ k g. sym (getD-take rowLen (part W p rowLen) k 0 g ∙ getD-part W p rowLen k 0 g) in
+      let first : getD W p 0 ≡ getD (take rowLen (part W p rowLen)) 0 0 = ap (λ (j : ℕ). getD W j 0) (sym z) ∙ word 0 (omega arith) in
+      let second : getD W (p + 1) 0 ≡ getD (take rowLen (part W p rowLen)) 1 0 = word 1 (omega arith) in
+      let third : getD W (p + 2) 0 ≡ getD (take rowLen (part W p rowLen)) 2 0 = word 2 (omega arith) in
+      let row : record { key = getD W p 0; body = getD W (p + 1) 0; size = getD W (p + 2) 0 } ≡ rowOf (take rowLen (part W p rowLen)) =
       λ j. record { key = first j; body = second j; size = third j } in
       row
-      ∙ ap (λ (j : ℕ). rowOf (take 3 (part W j 3))) ep
+      ∙ ap (λ (j : ℕ). rowOf (take rowLen (part W j rowLen))) ep
       ∙ ap (λ (l : List Row). getD l 0 blank) (rows-part (headLen + s * width (st .rows)) i 1 refl (omega arith))
       ∙ getD-part (rawAt st W s .cells) i 1 0 blank (omega arith) ∙ ap (λ (j : ℕ). getD (rawAt st W s .cells) j blank) z′
 
   -- ---- what is replaced
 
-  pub head-over : (b k c : ℕ) → b ≡ headLen + s * width (st .rows) → Wrote st W (over W b 2 (k ∷ c ∷ [])) (putHead st W s k c)
+  pub head-over : (b k c : ℕ) → b ≡ headLen + s * width (st .rows) → Wrote st W (over W b slotHead (k ∷ c ∷ [])) (putHead st W s k c)
   head-over b k c eb =
       let z : b ≡ headLen + s * width (st .rows) + 0 = omega arith in
-      rw (z, raw-block) (rw (headed (st .rows) block k c) at (block-over 0 2 (k ∷ c ∷ []) (omega arith) refl))
+      rw (z, raw-block) (rw (headed (st .rows) block k c) at (block-over 0 slotHead (k ∷ c ∷ []) (omega arith) refl))
 
   -- n rows from row i on
-  pub rows-over : (b i n : ℕ) (new : List ℕ) → b ≡ headLen + s * width (st .rows) → i + n ≤ st .rows → length new ≡ n * 3
-      → Wrote st W (over W (b + (2 + i * 3)) (n * 3) new) (putCells st W s (over (rawAt st W s .cells) i n (rowsOf n new)))
+  pub rows-over : (b i n : ℕ) (new : List ℕ) → b ≡ headLen + s * width (st .rows) → i + n ≤ st .rows → length new ≡ n * rowLen
+      → Wrote st W (over W (b + (slotHead + i * rowLen)) (n * rowLen) new) (putCells st W s (over (rawAt st W s .cells) i n (rowsOf n new)))
   rows-over b i n new eb g e =
-      rw (eb, raw-block) (rw (rows-within (st .rows) block i n new length-block g e) at (block-over (2 + i * 3) (n * 3) new (omega arith) e))
+      rw (eb, raw-block) (rw (rows-within (st .rows) block i n new length-block g e) at (block-over (slotHead + i * rowLen) (n * rowLen) new (omega arith) e))
 
   -- ---- what the functions of `words` leave
 
@@ -186,24 +186,24 @@ module _ (st : Settings) (W : List ℕ) (s : ℕ) (sh : Shape st W) (h : s < st 
   head-put b k c bs = rw (stores-over (c ∷ []) k W b (omega arith)) (head-over b k c (bs .start))
 
   pub row-put : (b i : ℕ) (r : Row) → Base st W s b → i + 1 ≤ st .rows
-      → Wrote st W (set (set (set W (b + (2 + i * 3)) (r .key)) (b + (2 + i * 3) + 1) (r .body)) (b + (2 + i * 3) + 2) (r .size))
+      → Wrote st W (set (set (set W (b + (slotHead + i * rowLen)) (r .key)) (b + (slotHead + i * rowLen) + 1) (r .body)) (b + (slotHead + i * rowLen) + 2) (r .size))
       (putCells st W s (over (rawAt st W s .cells) i 1 (r ∷ [])))
   unfolding rowsOf chunks
   row-put b i r bs g =
-      rw (stores-over (r .body ∷ r .size ∷ []) (r .key) W (b + (2 + i * 3)) (omega arith))
+      rw (stores-over (r .body ∷ r .size ∷ []) (r .key) W (b + (slotHead + i * rowLen)) (omega arith))
       (rows-over b i 1 (r .key ∷ r .body ∷ r .size ∷ []) (bs .start) g refl)
 
   pub rows-cleared : (b i n : ℕ) → Base st W s b → i + n ≤ st .rows
-      → Wrote st W (cleared W (b + (2 + i * 3)) (n * 3)) (putCells st W s (over (rawAt st W s .cells) i n (replicate n blank)))
+      → Wrote st W (cleared W (b + (slotHead + i * rowLen)) (n * rowLen)) (putCells st W s (over (rawAt st W s .cells) i n (replicate n blank)))
   unfolding cleared over
-  rows-cleared b i n bs g = rw (zero-rows n) at (rows-over b i n (replicate (n * 3) 0) (bs .start) g (length-replicate (n * 3) 0))
+  rows-cleared b i n bs g = rw (zero-rows n) at (rows-over b i n (replicate (n * rowLen) 0) (bs .start) g (length-replicate (n * rowLen) 0))
 
 -- rows of slot s go to slot t
 pub rows-moved : (st : Settings) (W : List ℕ) (s t a b from to n : ℕ) → Cells st W s from n → Cells st W t to n → Base st W s a → Base st W t b
-    → Wrote st W (moved W (a + (2 + from * 3)) (b + (2 + to * 3)) (n * 3))
+    → Wrote st W (moved W (a + (slotHead + from * rowLen)) (b + (slotHead + to * rowLen)) (n * rowLen))
     (putCells st W t (over (rawAt st W t .cells) to n (part (rawAt st W s .cells) from n)))
 unfolding moved over part
 rows-moved st W s t a b from to n cs ct ba bb =
-    let p = a + (2 + from * 3) in
+    let p = a + (slotHead + from * rowLen) in
     rw (rows-part st W s (cs .shape) (cs .slot) a from n (ba .start) (cs .within))
-    at (rows-over st W t (ct .shape) (ct .slot) b to n (part W p (n * 3)) (bb .start) (ct .within) (length-part W p (n * 3) (omega arith)))
+    at (rows-over st W t (ct .shape) (ct .slot) b to n (part W p (n * rowLen)) (bb .start) (ct .within) (length-part W p (n * rowLen) (omega arith)))

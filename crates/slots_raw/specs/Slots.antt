@@ -10,16 +10,19 @@ use Rattle.slots_raw.specs.declared.Row.{Row}
 
 -- ---- lengths, in words
 
--- of the header, and of a row
+-- of the header, of the head of a slot (its kind and its count), and of a row
 abbrev pub headLen : ℕ
 headLen = 4
+
+abbrev pub slotHead : ℕ
+slotHead = 2
 
 abbrev pub rowLen : ℕ
 rowLen = 3
 
 -- of a slot with room for some rows
 abbrev pub width : ℕ → ℕ
-width rows = 2 + rowLen * rows
+width rows = slotHead + rowLen * rows
 
 -- the header of a pool's words
 abbrev pub headIn : List ℕ → List ℕ
@@ -52,7 +55,7 @@ rowsOf n l = map rowOf (chunks rowLen n l)
 
 -- the slot that some words spell, with room for some rows
 unfoldable pub rawOf : ℕ → List ℕ → Raw
-rawOf rows b = record { kind = getD b 0 0; count = getD b 1 0; cells = rowsOf rows (drop 2 b) }
+rawOf rows b = record { kind = getD b 0 0; count = getD b 1 0; cells = rowsOf rows (drop slotHead b) }
 
 -- ---- the slots of a pool's words
 

@@ -10,7 +10,7 @@ use lib.ListN.{length, drop, drop-of-length-le}
 use lib.Seq.{drop-cons}
 use borrow.Author.Tests.{eq-eqb, ne-eqb}
 use Rattle.slots_raw.specs.Slots.{rawAt}
-use Rattle.slots.specs.Nodes.{nodes, nth, unused, rawFor}
+use Rattle.slots.specs.Nodes.{unusedKind, nodes, nth, unused, rawFor}
 use Rattle.slots.specs.Nodes as S
 use Rattle.slots.proofs.Nodes.{kind-node, length-nodes}
 use Rattle.slots_pool.proofs.Canons.{past-raw}
@@ -25,8 +25,8 @@ pub record Swept (st : Settings) (W : List ℕ) (free least s : ℕ) : Type 0 wh
   pub unused : free ≡ length (unusedFrom s (drop s (nodes st W)))
   pub few : free + s ≤ st .nodes
   pub low : least ≤ st .nodes
-  pub before : (t : ℕ) → s ≤ t → t < least → nth (nodes st W) t .kind ≢ 0
-  pub here : least < st .nodes → nth (nodes st W) least .kind ≡ 0
+  pub before : (t : ℕ) → s ≤ t → t < least → nth (nodes st W) t .kind ≢ unusedKind
+  pub here : least < st .nodes → nth (nodes st W) least .kind ≡ unusedKind
 
 module _ (st : Settings) (W : List ℕ) where
   pub swept-none : Swept st W 0 (st .nodes) (st .nodes)
@@ -55,35 +55,35 @@ module _ (st : Settings) (W : List ℕ) where
         let e : suc (s - 1) ≡ s = omega arith in
         drop-cons (nodes st W) (s - 1) unused (omega (arith, length-nodes st W, g .within)) ∙ ap (λ (j : ℕ). nth (nodes st W) (s - 1) ∷ drop j (nodes st W)) e
 
-    pub swept-unused : rawAt st W (s - 1) .kind ≡ 0 → rawAt st W (s - 1) ≡ rawFor (st .rows) unused → Swept st W (free + 1) (s - 1) (s - 1)
+    pub swept-unused : rawAt st W (s - 1) .kind ≡ unusedKind → rawAt st W (s - 1) ≡ rawFor (st .rows) unused → Swept st W (free + 1) (s - 1) (s - 1)
     swept-unused k z =
-        let kind : nth (nodes st W) (s - 1) .kind ≡ 0 = sym (kind-node st W (s - 1)) ∙ k in
+        let kind : nth (nodes st W) (s - 1) .kind ≡ unusedKind = sym (kind-node st W (s - 1)) ∙ k in
         let e : suc (s - 1) ≡ s = omega arith in
         record {
           within = omega (arith, g .within);
           idle = more-idle (λ q. z);
-          unused = rw (next, eq-eqb (nth (nodes st W) (s - 1) .kind) 0 kind, e) (omega (arith, g .unused));
+          unused = rw (next, eq-eqb (nth (nodes st W) (s - 1) .kind) unusedKind kind, e) (omega (arith, g .unused));
           few = omega (arith, g .few);
           low = omega (arith, g .within);
           before = λ t le lt. absurd (omega arith);
           here = λ lt. kind;
         }
 
-    pub swept-used : (rawAt st W (s - 1) .kind ≡ 0 → ⊥) → Swept st W free least (s - 1)
+    pub swept-used : (rawAt st W (s - 1) .kind ≡ unusedKind → ⊥) → Swept st W free least (s - 1)
     swept-used k =
-        let kind : nth (nodes st W) (s - 1) .kind ≢ 0 = λ q. k (kind-node st W (s - 1) ∙ q) in
+        let kind : nth (nodes st W) (s - 1) .kind ≢ unusedKind = λ q. k (kind-node st W (s - 1) ∙ q) in
         let e : suc (s - 1) ≡ s = omega arith in
         record {
           within = omega (arith, g .within);
           idle = more-idle (λ q. absurd (kind q));
-          unused = rw (next, ne-eqb (nth (nodes st W) (s - 1) .kind) 0 kind, e) (g .unused);
+          unused = rw (next, ne-eqb (nth (nodes st W) (s - 1) .kind) unusedKind kind, e) (g .unused);
           few = omega (arith, g .few);
           low = g .low;
           before = λ t le lt. by kind t le lt (ℕ-discrete (s - 1) t);
           here = g .here;
         }
       where
-        by : nth (nodes st W) (s - 1) .kind ≢ 0 → (t : ℕ) → s - 1 ≤ t → t < least → Dec (s - 1 ≡ t) → nth (nodes st W) t .kind ≢ 0
+        by : nth (nodes st W) (s - 1) .kind ≢ unusedKind → (t : ℕ) → s - 1 ≤ t → t < least → Dec (s - 1 ≡ t) → nth (nodes st W) t .kind ≢ unusedKind
         by kind t le lt (yes e) = rw (sym e) kind
         by kind t le lt (no ne) = g .before t (omega arith) lt
 

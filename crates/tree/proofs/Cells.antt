@@ -5,7 +5,7 @@ use mathlib.Core.List.{List, [], _∷_, _++_, map, reverseAux}
 use Prim.Native.Nat.{ℕ, zero, suc, _+_, _<_}
 use native.Mathlib.Omega.{arith}
 use native.Mathlib.Decide.{ℕ-discrete}
-use Rattle.slots.specs.Nodes.{nth}
+use Rattle.slots.specs.Nodes.{unusedKind, interiorKind, nth}
 use Rattle.slots.specs.Nodes as S
 use Rattle.slots_raw.proofs.Over.{map-append}
 use Rattle.model.specs.Lists.{times, All, none, one}
@@ -74,12 +74,12 @@ agree-items ns ms h xs f k = agree ns ms (cellsOf h xs) (λ x g. f x (subst (λ 
 
 -- EVERY NODE OF A TREE IS IN USE
 
-pub kind-used : (h : ℕ) → kindFor h ≢ 0
+pub kind-used : (h : ℕ) → kindFor h ≢ unusedKind
 kind-used zero e = absurd (omega arith)
 kind-used (suc h) e = absurd (omega arith)
 
 abbrev pub Full : Cell → Type 0
-Full c = c .node .kind ≢ 0
+Full c = c .node .kind ≢ unusedKind
 
 module _ (h : ℕ) (f : (i : Item h) → All Full (cells h i)) where
   list-full : (xs : List (Item h)) → All Full (cellsOf h xs)
@@ -90,20 +90,20 @@ pub full : (h : ℕ) (i : Item h) → All Full (cells h i)
 full zero e = none
 full (suc h) n = one {x = record { slot = n .slot; node = nodeFor h n }} (kind-used h) (list-full h (full h) (n .items))
 
-used-by : (ns : List S.Node) (cs : List Cell) → All Full cs → All (Stands ns) cs → (x : ℕ) → 0 < times x (places cs) → nth ns x .kind ≢ 0
+used-by : (ns : List S.Node) (cs : List Cell) → All Full cs → All (Stands ns) cs → (x : ℕ) → 0 < times x (places cs) → nth ns x .kind ≢ unusedKind
 used-by ns [] none none x h = absurd (omega arith)
 used-by ns (c ∷ cs) (one a us) (one b bs) x h = by (used-by ns cs us bs x) (ℕ-discrete x (c .slot))
   where
-    by : (0 < times x (places cs) → nth ns x .kind ≢ 0) → Dec (x ≡ c .slot) → nth ns x .kind ≢ 0
+    by : (0 < times x (places cs) → nth ns x .kind ≢ unusedKind) → Dec (x ≡ c .slot) → nth ns x .kind ≢ unusedKind
     by r (yes e) = λ q. a (ap (λ (n : S.Node). n .kind) (sym b) ∙ ap (λ (y : ℕ). nth ns y .kind) (sym e) ∙ q)
     by r (no e) = r (omega (arith, hit-other x (c .slot) e))
 
-pub used-items : (ns : List S.Node) (h : ℕ) (xs : List (Item h)) → All (Stands ns) (cellsOf h xs) → (x : ℕ) → 0 < times x (slotsIn h xs) → nth ns x .kind ≢ 0
+pub used-items : (ns : List S.Node) (h : ℕ) (xs : List (Item h)) → All (Stands ns) (cellsOf h xs) → (x : ℕ) → 0 < times x (slotsIn h xs) → nth ns x .kind ≢ unusedKind
 used-items ns h xs k x g = used-by ns (cellsOf h xs) (list-full h (full h) xs) k x (subst (λ (l : List ℕ). 0 < times x l) (sym (items-places h xs)) g)
 
-pub used-tree : (ns : List S.Node) (h : ℕ) (t : Tree h) → Holds ns h t → (x : ℕ) → 0 < times x (slots (suc h) t) → nth ns x .kind ≢ 0
+pub used-tree : (ns : List S.Node) (h : ℕ) (t : Tree h) → Holds ns h t → (x : ℕ) → 0 < times x (slots (suc h) t) → nth ns x .kind ≢ unusedKind
 used-tree ns h t k x g = used-by ns (cells (suc h) t) (full (suc h) t) k x (subst (λ (l : List ℕ). 0 < times x l) (sym (cell-places (suc h) t)) g)
 
-pub high-kind : (h : ℕ) → h ≢ 0 → 2 ≡ kindFor h
+pub high-kind : (h : ℕ) → h ≢ 0 → interiorKind ≡ kindFor h
 high-kind zero ne = absurd (ne refl)
 high-kind (suc h) ne = refl

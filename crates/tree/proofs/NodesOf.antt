@@ -9,7 +9,7 @@ use lib.Dec.{eqb}
 use lib.ListN.{length, length-map, List·getD-eq-default}
 use lib.Seq.{ext-getD}
 use borrow.Author.Tests.{eq-eqb, ne-eqb, eqb-true, eqb-false}
-use Rattle.slots.specs.Nodes.{nth, unused}
+use Rattle.slots.specs.Nodes.{unusedKind, nth, unused}
 use Rattle.slots.specs.Nodes as S
 use Rattle.model.specs.declared.Settings.{Settings}
 use Rattle.model.specs.Lists.{times, upFrom, All, none, one}
@@ -74,12 +74,12 @@ slots-of : (x : Index) (s : ℕ) → times s (places (cellsIn x)) ≡ times s (s
 slots-of x s = ap (times s) (cell-places (suc (x .height)) (x .root))
 
 -- a slot is of no kind exactly if the tree does not take it
-kind-none : (n : ℕ) (x : Index) (s : ℕ) → s < n → times s (slotsOf x) ≡ 0 → nth (nodesOf n x) s .kind ≡ 0
+kind-none : (n : ℕ) (x : Index) (s : ℕ) → s < n → times s (slotsOf x) ≡ 0 → nth (nodesOf n x) s .kind ≡ unusedKind
 kind-none n x s h e = ap (λ (n : S.Node). n .kind) (nth-nodesOf n x s h ∙ node-none (cellsIn x) s (slots-of x s ∙ e))
 
 nodesOf-blank : (n : ℕ) (x : Index) → Blank (nodesOf n x)
 nodesOf-blank n x s =
-    nodesOf-have (λ (n : S.Node). n .kind ≡ 0 → n ≡ unused) (λ e. refl) n x
+    nodesOf-have (λ (n : S.Node). n .kind ≡ unusedKind → n ≡ unused) (λ e. refl) n x
     (all-map (λ (c : Cell) (f : Full c) e. absurd (f e)) (full (suc (x .height)) (x .root))) s
 
 -- its tree, whatever is in use elsewhere ..
@@ -90,7 +90,7 @@ module _ (st : Settings) {elsewhere : List ℕ} (x : Index) (sound : Sound st el
       (by-place (λ (c : Cell). 0 < times (c .slot) (places (cellsIn x))) (cellsIn x) (λ c g. g))
       (node-own (cellsIn x) (λ s. omega (arith, slots-of x s, slots-apart st x sound s)))
 
-  kind-some : (s : ℕ) → 0 < times s (slotsOf x) → nth (nodesOf (st .nodes) x) s .kind ≢ 0
+  kind-some : (s : ℕ) → 0 < times s (slotsOf x) → nth (nodesOf (st .nodes) x) s .kind ≢ unusedKind
   kind-some s h = used-tree (nodesOf (st .nodes) x) (x .height) (x .root) nodesOf-tree s h
 
 -- .. and its unused slots, where nothing is
@@ -127,12 +127,12 @@ node-found ns (one {x = c} {xs = cs} k ks) s f =
 
 module _ (st : Settings) (x : Index) (ns : List S.Node) (size : length ns ≡ st .nodes) (k : HoldsIndex ns x) (sound : Alone st x) where
   unheld : (s : ℕ) → s < st .nodes → times s (places (cellsIn x)) ≡ 0 → nth ns s ≡ unused
-  unheld s h e = k .blank s (by (ℕ-discrete (nth ns s .kind) 0))
+  unheld s h e = k .blank s (by (ℕ-discrete (nth ns s .kind) unusedKind))
     where
       one-unused : times s (unusedOf ns) ≡ 1
       one-unused = ap (times s) (k .unused) ∙ omega (arith, slot-inside st x sound s h, slots-of x s)
 
-      by : Dec (nth ns s .kind ≡ 0) → nth ns s .kind ≡ 0
+      by : Dec (nth ns s .kind ≡ unusedKind) → nth ns s .kind ≡ unusedKind
       by (yes q) = q
       by (no q) = absurd (omega (arith, one-unused, used-none ns s q))
 

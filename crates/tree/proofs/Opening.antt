@@ -12,7 +12,7 @@ use Rattle.words.specs.Words.{words, bytesOf}
 use Rattle.words.proofs.Laws.{Bytes, bytesOf-words}
 use Rattle.slots_raw.specs.Slots.{width, headLen}
 use Rattle.slots_pool.specs.Header.{headerOf}
-use Rattle.slots.specs.Nodes.{unused}
+use Rattle.slots.specs.Nodes.{leafKind, unused}
 use Rattle.slots.specs.Nodes as S
 use Rattle.slots_pool.specs.Image.{image, newNodes}
 use Rattle.model.specs.declared.PoolSettings.{PoolSettings}
@@ -63,7 +63,7 @@ pub new-nodes : (n : ℕ) → 0 < n → nodesOf n (newIndex n) ≡ newNodes n
 new-nodes zero h = absurd (omega arith)
 new-nodes (suc n) h =
     let e : suc n - 1 ≡ n = omega arith in
-    rw e (ap (λ (l : List S.Node). record { kind = 1; rows = [] } ∷ l) (later-unused (record { slot = 0; node = record { kind = 1; rows = [] } }) 1 n (omega arith)))
+    rw e (ap (λ (l : List S.Node). record { kind = leafKind; rows = [] } ∷ l) (later-unused (record { slot = 0; node = record { kind = leafKind; rows = [] } }) 1 n (omega arith)))
 
 -- a pool of these nodes is its image
 pub new-image : (given : PoolSettings) (l : List ℕ) → InLimits (handed given) → length l ≡ poolLen given → Bytes l

@@ -85,7 +85,7 @@ unusedOf ns = unusedFrom 0 ns
 
 -- an unused slot holds nothing
 abbrev pub Blank : List S.Node → Type 0
-Blank ns = (s : ℕ) → nth ns s .kind ≡ 0 → nth ns s ≡ unused
+Blank ns = (s : ℕ) → nth ns s .kind ≡ unusedKind → nth ns s ≡ unused
 
 -- the nodes hold an index: its tree, its unused slots, and nothing in those
 pub record HoldsIndex (ns : List S.Node) (x : Index) : Type 0 where
@@ -99,4 +99,4 @@ Apart h t = (x : ℕ) → times x (slots (suc h) t) ≤ 1
 
 -- every slot in use that is not one of `mine` is as it was
 abbrev pub Frame : List S.Node → List S.Node → List ℕ → Type 0
-Frame ns ms mine = (x : ℕ) → nth ns x .kind ≢ 0 → times x mine ≡ 0 → nth ms x ≡ nth ns x
+Frame ns ms mine = (x : ℕ) → nth ns x .kind ≢ unusedKind → times x mine ≡ 0 → nth ms x ≡ nth ns x

@@ -9,7 +9,7 @@ use Rattle.words.specs.Words.{words, bytesOf}
 use Rattle.slots_raw.specs.declared.Row.{Row}
 use Rattle.slots_raw.specs.Slots.{width, headLen, rawAt}
 use Rattle.slots_pool.specs.Header.{layoutNumber, layoutOf, settingsOf, headerOf}
-use Rattle.slots.specs.Nodes.{leafKind, interiorKind, nodes, nth, unused, Canon}
+use Rattle.slots.specs.Nodes.{unusedKind, leafKind, interiorKind, nodes, nth, unused, Canon}
 use Rattle.slots.specs.Nodes as S
 use Rattle.slots_pool.specs.Image.{image}
 use Rattle.model.specs.declared.PoolSettings.{PoolSettings}
@@ -89,7 +89,7 @@ Totalled h r c = childTotals r ≡ total (suc h) c
 -- a slot has zeros past its rows, and nothing but zeros if it is unused
 pub record Zeros (st : Settings) (W : List ℕ) (s : ℕ) : Type 0 where
   pub tail : Canon (st .rows) (rawAt st W s)
-  pub whole : nth (nodes st W) s .kind ≡ 0 → nth (nodes st W) s ≡ unused
+  pub whole : nth (nodes st W) s .kind ≡ unusedKind → nth (nodes st W) s ≡ unused
 
 -- of the nodes ns of a pool with the settings st
 pub record SoundNodes (st : Settings) (ns : List S.Node) : Type 0 where

@@ -5,6 +5,7 @@ use mathlib.Core.List.{List}
 use lib.ListN.{set}
 use borrow.Author.Needs.{needs}
 use Rattle.words.specs.Words.{words}
+use Rattle.slots_raw.specs.Slots.{slotHead, rowLen}
 use Rattle.slots_raw.proofs.Raws.{row-put}
 use Rattle.slots_raw.proofs.raw_put.Statement.{statement}
 use Rattle.slots_raw.proofs.raw_put.Tie as tie
@@ -17,7 +18,7 @@ returns c =
     let b = first .before .before .base in
     let start = first .before .before .before .before .before in
     let a = start .args in
-    let p = b .result + (2 + a .i * 3) in
+    let p = b .result + (slotHead + a .i * rowLen) in
     rw (third .put3 .ensures .0
     ∙ ap (λ (l : List ℕ). set l (p + 2) (a .row .size)) (second .put2 .ensures .0)
     ∙ ap (λ (l : List ℕ). set (set l (p + 1) (a .row .body)) (p + 2) (a .row .size)) (first .put .ensures .0))

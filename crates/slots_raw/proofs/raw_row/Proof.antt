@@ -4,6 +4,7 @@ use Prim.Native.Nat.{_+_, _*_}
 use native.Mathlib.Omega.{arith}
 use borrow.Author.Needs.{needs}
 use Rattle.words.specs.Words.{words}
+use Rattle.slots_raw.specs.Slots.{slotHead, rowLen}
 use Rattle.slots_raw.proofs.Raws.{row-at}
 use Rattle.slots_raw.proofs.raw_row.Statement.{statement}
 use Rattle.slots_raw.proofs.raw_row.Tie as tie
@@ -14,8 +15,8 @@ returns c =
     let a = start .args in
     let b = c .before .before .before .base in
     (λ j. record { key = c .before .before .get .ensures j; body = c .before .get2 .ensures j; size = c .get3 .ensures j })
-    ∙ row-at (a .st) (words (a .pool .now)) (a .s) (start .pre .shape) (start .pre .slot) (b .result + (2 + a .i * 3)) (a .i)
-    (ap (_+ (2 + a .i * 3)) (b .ensures .start)) (omega arith)
+    ∙ row-at (a .st) (words (a .pool .now)) (a .s) (start .pre .shape) (start .pre .slot) (b .result + (slotHead + a .i * rowLen)) (a .i)
+    (ap (_+ (slotHead + a .i * rowLen)) (b .ensures .start)) (omega arith)
 
 pub raw-row-spec : {M : Type 1} → statement M
 raw-row-spec =
