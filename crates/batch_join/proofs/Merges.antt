@@ -27,7 +27,7 @@ use Rattle.tree.proofs.Cells.{kind-used}
 use Rattle.tree.proofs.Unused.{unused-released, unused-kept}
 use Rattle.batch_share.specs.Settle.{kidsAt, Settled}
 use Rattle.tree_node.specs.Ask.{rowOver}
-use Rattle.batch_share.specs.Weigh.{ToRenew, renewed}
+use Rattle.batch_share.specs.Renew.{ToRenew, renewed}
 use Rattle.batch_share.specs.Steps.{Bounded, Beside, Came, Left}
 use Rattle.tree_node.proofs.Weights.{row-over}
 use Rattle.batch_share.proofs.Weights.{sums-fit, bounded-left, bounded-right}

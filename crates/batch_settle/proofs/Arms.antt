@@ -29,7 +29,7 @@ use Rattle.model.specs.declared.ChangeResult.the-variants.{Unchanged}
 use Rattle.batch_share.specs.declared.Standing.{Standing}
 use Rattle.batch_share.specs.Settle.{inner, kidsAt, childAt, beforeAt, afterAt, ToSettle, Settled, Ended, Done}
 use Rattle.tree_node.specs.Ask.{rowOver}
-use Rattle.batch_share.specs.Weigh.{ToRenew, renewed}
+use Rattle.batch_share.specs.Renew.{ToRenew, renewed}
 use Rattle.batch_share.specs.Steps.{Bounded, Family, Poise, ToStep, Came}
 use Rattle.tree_node.proofs.Weights.{row-over}
 use Rattle.batch_share.proofs.Weights.{sums-fit, bounded-left, bounded-right}

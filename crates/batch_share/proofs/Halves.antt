@@ -29,7 +29,7 @@ use Rattle.tree_spare.proofs.Spares.{spared-in, spared-taken}
 use Rattle.batch_share.specs.Settle.{kidsAt, Settled}
 use Rattle.tree.specs.Sums.{ToWeigh}
 use Rattle.tree_node.specs.Ask.{rowOver}
-use Rattle.batch_share.specs.Weigh.{ToRenew, renewed}
+use Rattle.batch_share.specs.Renew.{ToRenew, renewed}
 use Rattle.batch_share.specs.Steps.{Bounded, Focus, Poise, Came, Left}
 use Rattle.tree_node.proofs.Weights.{row-over}
 use Rattle.batch_share.proofs.Weights.{sums-fit, bounded-left, bounded-right}

@@ -16,7 +16,7 @@ use Rattle.tree.specs.Bridge.{unusedOf}
 use Rattle.tree.proofs.Unused.{unused-kept}
 use Rattle.tree.specs.Sums.{Sums}
 use Rattle.tree_node.specs.Ask.{rowOver}
-use Rattle.batch_share.specs.Weigh.{ToRenew, renewed, ToRenewTwo, renewedTwo}
+use Rattle.batch_share.specs.Renew.{ToRenew, renewed, ToRenewTwo, renewedTwo}
 
 pub unused-rows : (ns : List S.Node) (s : ℕ) (l : List Row) → unusedOf (putRows ns s l) ≡ unusedOf ns
 unfolding putRows

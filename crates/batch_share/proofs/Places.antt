@@ -22,7 +22,7 @@ use Rattle.tree.proofs.Unused.{used-in}
 use Rattle.tree.proofs.ReadOff.{kids-read}
 use Rattle.tree.proofs.SoundHolds.{slot-read}
 use Rattle.batch_share.specs.Settle.{inner, kidsAt, childAt, beforeAt, afterAt}
-use Rattle.batch_share.specs.Weigh.{ToName}
+use Rattle.batch_share.specs.Renew.{ToName}
 use Rattle.batch_share.specs.Steps.{Family, Came}
 use Rattle.batch_share.proofs.Zips.{take-turned, drop-turned, getD-turned, twice-turned, apart-at}
 

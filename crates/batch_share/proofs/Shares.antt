@@ -26,7 +26,7 @@ use Rattle.tree_spare.specs.declared.Spare.{Spare}
 use Rattle.tree_spare.specs.Spared.{Spared}
 use Rattle.tree_spare.proofs.Spares.{spared-same}
 use Rattle.batch_share.specs.declared.Standing.{Standing}
-use Rattle.batch_share.specs.Weigh.{ToName}
+use Rattle.batch_share.specs.Renew.{ToName}
 use Rattle.batch_share.specs.Steps.{Family, Focus, Poise, ToStep, Beside, Neighbours, Came, Left, Parted, Rowed, roomIn}
 use Rattle.batch_share.proofs.Places.{family-long, came-kids, kids-came}
 use Rattle.batch_share.proofs.Turns.{recut-family, recut-then, sits-lower}

@@ -24,7 +24,7 @@ use Rattle.tree.proofs.Cells.{cells-rest, kind-used}
 use Rattle.tree.proofs.Unused.{used-in}
 use Rattle.batch_share.specs.Settle.{inner, kidsAt, childAt, Settled}
 use Rattle.tree_node.specs.Ask.{rowOver}
-use Rattle.batch_share.specs.Weigh.{ToName, ToRenewTwo, renewedTwo}
+use Rattle.batch_share.specs.Renew.{ToName, ToRenewTwo, renewedTwo}
 use Rattle.batch_share.specs.Steps.{Bounded, Family, Beside, Neighbours, Came}
 use Rattle.tree_node.proofs.Weights.{row-over}
 use Rattle.batch_share.proofs.Weights.{sums-fit, bounded-left, bounded-right}

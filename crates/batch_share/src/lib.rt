@@ -1,5 +1,5 @@
 // The row of a changed child in its parent made new, and an over-full child shared out or split.
-pub mod weigh; // the row of a child in its parent
+pub mod renew; // the row of a child in its parent
 mod share; // an over-full child is shared out or split
 
 pub use share::share_out;

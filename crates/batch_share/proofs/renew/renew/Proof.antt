@@ -6,8 +6,8 @@ use Rattle.words.specs.Words.{words}
 use Rattle.slots_raw.specs.declared.Row.{Row}
 use Rattle.slots.specs.Nodes.{nodes, nth, putRows}
 use Rattle.slots.proofs.Nodes.{become}
-use Rattle.batch_share.proofs.weigh.renew.Statement.{statement}
-use Rattle.batch_share.proofs.weigh.renew.Tie as tie
+use Rattle.batch_share.proofs.renew.renew.Statement.{statement}
+use Rattle.batch_share.proofs.renew.renew.Tie as tie
 
 returns : tie.Need-returns
 returns c =

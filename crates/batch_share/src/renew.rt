@@ -5,7 +5,7 @@ ghost use Rattle.slots.specs.Nodes.{nodes};
 ghost use Rattle.slots.specs.Contracts.{Now};
 ghost use Rattle.model.specs.Tree.{len};
 ghost use Rattle.batch_share.specs.Settle.{childAt};
-ghost use Rattle.batch_share.specs.Weigh.{ToName, ToRenew, renewed, ToRenewTwo, renewedTwo};
+ghost use Rattle.batch_share.specs.Renew.{ToName, ToRenew, renewed, ToRenewTwo, renewedTwo};
 use model::Settings;
 use tree_node::child_at;
 use tree_node::weigh;

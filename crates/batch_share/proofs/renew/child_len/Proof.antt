@@ -1,8 +1,8 @@
 -- `child_len` meets its contract: the slot in the row is the child's, which has the rows of its node. Assumes nothing.
 use mathlib.Core.Path.{_∙_}
 use Rattle.batch_share.proofs.Places.{sits-row, named-at}
-use Rattle.batch_share.proofs.weigh.child_len.Statement.{statement}
-use Rattle.batch_share.proofs.weigh.child_len.Tie as tie
+use Rattle.batch_share.proofs.renew.child_len.Statement.{statement}
+use Rattle.batch_share.proofs.renew.child_len.Tie as tie
 
 count-requires : tie.Need-count-requires
 count-requires c κs =

@@ -4,8 +4,8 @@ use borrow.Author.Needs.{needs}
 use Rattle.words.specs.Words.{words}
 use Rattle.slots.proofs.Nodes.{fits-node}
 use Rattle.batch_share.proofs.Parents.{renews-second, renewed-both}
-use Rattle.batch_share.proofs.weigh.renew_two.Statement.{statement}
-use Rattle.batch_share.proofs.weigh.renew_two.Tie as tie
+use Rattle.batch_share.proofs.renew.renew_two.Statement.{statement}
+use Rattle.batch_share.proofs.renew.renew_two.Tie as tie
 
 add-renew : tie.Need-add-renew
 add-renew c =
