@@ -9,7 +9,7 @@ use Rattle.model.specs.declared.ChangeResult.the-variants.{Absorb}
 use Rattle.slots.specs.Nodes.{nodes, rowsAt}
 use Rattle.model.specs.declared.Settings.{Settings}
 use Rattle.model.specs.Tree.{Node, Tree, len, refill, release}
-use Rattle.model.specs.Share.{Row, halved, join, followed, stay}
+use Rattle.model.specs.Share.{Row, half, cutAt, join, followed, stay}
 use Rattle.model.specs.Sound.{Stocked}
 use Rattle.model.proofs.Lists.{all-head}
 use Rattle.tree.specs.Bridge.{unusedOf}
@@ -33,7 +33,8 @@ module _ (st : Settings) {X : Type 0} (p c : Node X) (a : List (Node X)) (us : L
   join-fits le = rw (le-leb (len whole) (st .order) (omega (arith, le, length-append (p .items) (c .items)))) refl
 
   join-over : st .order < len p + len c
-      → followed (join st p c us) a ≡ record { nodes = halved whole (c .slot) .lower ∷ halved whole (c .slot) .upper ∷ a; unused = us }
+      → let two = cutAt (half (len whole)) whole (c .slot) in
+      followed (join st p c us) a ≡ record { nodes = two .lower ∷ two .upper ∷ a; unused = us }
   join-over lt = rw (lt-leb (len whole) (st .order) (omega (arith, lt, length-append (p .items) (c .items)))) refl
 
 -- TWO NEIGHBOURS, merged or levelled
@@ -51,12 +52,9 @@ module _ {st : Settings} {W : List ℕ} {h s i : ℕ} {b : List (Tree h)} {p c :
   merged-rowed le x = subst Joined (sym (join-fits st p c a us le)) x
 
   pub even-rowed : st .order < len p + len c → Spared (nodes st W) spare
-      → Came st W W₁ h s (kidsAt (nodes st W) h s)
-      (record {
-        before = b;
-        rest = halved (refill p (p .items ++ c .items)) (c .slot) .lower ∷ halved (refill p (p .items ++ c .items)) (c .slot) .upper ∷ a;
-        unused = us;
-      })
+      → let both = refill p (p .items ++ c .items) in
+      let two = cutAt (half (len both)) both (c .slot) in
+      Came st W W₁ h s (kidsAt (nodes st W) h s) (record { before = b; rest = two .lower ∷ two .upper ∷ a; unused = us })
       → Joined (followed (join st p c us) a)
   even-rowed lt l m = subst Joined (sym (join-over st p c a us lt)) (record { came = m; spared = spared-same st W l W₁ (m .settled .unused) })
 

@@ -6,7 +6,7 @@ ghost use Rattle.words.specs.Words.{words};
 ghost use Rattle.slots.specs.Nodes.{nodes};
 ghost use Rattle.slots.specs.Contracts.{Now};
 ghost use Rattle.model.specs.Tree.{len, refill, release};
-ghost use Rattle.model.specs.Share.{halved, join, followed};
+ghost use Rattle.model.specs.Share.{half, cutAt, join, followed};
 ghost use Rattle.model.specs.declared.ChangeResult.the-variants.{Absorb, Remove};
 ghost use Rattle.model.specs.Contracts.{Says};
 ghost use Rattle.tree.specs.Bridge.{unusedOf};
@@ -100,7 +100,8 @@ fn even_out(pool: &mut [u8], st: Settings, below: usize, s: usize, i: usize)
         let ns = nodes st W in
         let p = childAt ns below s i in
         let c = childAt ns below s (i + 1) in
-        ⌜ Parted st W (words (now (pool .exit))) below s i (halved (refill p (p .items ++ c .items)) (c .slot)) ⌝ }
+        let both = refill p (p .items ++ c .items) in
+        ⌜ Parted st W (words (now (pool .exit))) below s i (cutAt (half (len both)) both (c .slot)) ⌝ }
 {
     let p = child_at(pool, st, s, i);
     let c = child_at(pool, st, s, i + 1);

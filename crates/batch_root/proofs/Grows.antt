@@ -1,17 +1,19 @@
--- A ROOT SPLIT, over the pool: what each call of `split_root` asks is there, and the last leaves the model's `splitRoot`. Assumes nothing.
+-- A ROOT SPLIT, over the pool: what each call of `split_root` asks is there, and the last leaves the model's root, cut where the code cuts it.
+-- Assumes nothing.
 use mathlib.Core.Path.{_≡_, sym, ap, _∙_, subst}
 use mathlib.Core.List.{List}
-use Prim.Native.Nat.{ℕ, _<_}
+use Prim.Native.Nat.{ℕ, _≤_, _<_}
 use native.Mathlib.Omega.{arith}
 use lib.ListN.{length}
 use Rattle.slots.specs.Nodes.{nodes, nth, rowsAt, splitNodes}
-use Rattle.slots.specs.Contracts.{Now, ToSplit}
+use Rattle.slots.specs.Contracts.{At, Now, ToSplit}
 use Rattle.slots.specs.Nodes as S
 use Rattle.slots_find.specs.Search.{Lowest}
 use Rattle.slots.proofs.Nodes.{length-nodes}
 use Rattle.model.specs.declared.Settings.{Settings}
 use Rattle.model.specs.Tree.{Tree, len, others}
 use Rattle.model.specs.Share.{half}
+use Rattle.model.specs.Change.{cutRoot}
 use Rattle.model.proofs.Lists.{all-head}
 use Rattle.model.proofs.Settles.{length-others}
 use Rattle.tree.specs.Bridge.{treeAt, unusedOf}
@@ -21,9 +23,14 @@ use Rattle.tree_spare.specs.declared.Spare.{Spare}
 use Rattle.tree_spare.specs.Spared.{Spared, ToTake}
 use Rattle.tree_spare.proofs.Spares.{spared-in, spared-taken}
 use Rattle.batch_share.proofs.Places.{node-used}
-use Rattle.batch_root.specs.Roots.{indexAt, ToSplitRoot, Halved, ToMove, moved, ToCrown, crowned}
+use Rattle.batch_root.specs.Roots.{indexAt, Becomes, ToSplitRoot, ToMove, moved, ToCrown, crowned}
 use Rattle.batch_root.proofs.Indexes.{keeps-root, now-holds}
-use Rattle.batch_root.proofs.Halves as H
+use Rattle.batch_root.proofs.Splits as P
+
+-- the code keeps `keep` rows in the lower part, which are k in the model
+pub record Keeps (h : ℕ) (t : Tree h) (keep k : ℕ) : Type 0 where
+  pub rows : keep ≡ k
+  pub within : k ≤ len t
 
 module _ {st : Settings} {W₀ : List ℕ} {h : ℕ} {spare : Spare} (pre : ToSplitRoot st W₀ h spare) where
   abbrev ns : List S.Node
@@ -55,7 +62,7 @@ module _ {st : Settings} {W₀ : List ℕ} {h : ℕ} {spare : Spare} (pre : ToSp
       }
 
   module _ {W₁ : List ℕ} (mv : Now st W₀ W₁ (moved (st .root) (nodes st W₀) a)) where
-    top : H.Top (st .root) ns h t a
+    top : P.Top (st .root) ns h t a
     top =
         record {
           root = slot-read ns h (st .root);
@@ -68,10 +75,13 @@ module _ {st : Settings} {W₀ : List ℕ} {h : ℕ} {spare : Spare} (pre : ToSp
         }
 
     moved-unused : unusedOf (nodes st W₁) ≡ others (unusedOf ns)
-    moved-unused = ap unusedOf (mv .is) ∙ H.moved-unused top
+    moved-unused = ap unusedOf (mv .is) ∙ P.moved-unused top
 
     pub lower-taken : ToTake st W₁ spare
     lower-taken = spared-taken st W₀ (pre .spared) W₁ (mv .held) some moved-unused
+
+    pub lower-at : At st W₁ a
+    lower-at = record { held = mv .held; slot = a-nodes }
 
     module _ {rest : Spare} (lo : Spared (nodes st W₁) rest) where
       abbrev b : ℕ
@@ -91,22 +101,26 @@ module _ {st : Settings} {W₀ : List ℕ} {h : ℕ} {spare : Spare} (pre : ToSp
 
       -- the moved root has the rows of the root
       long : length (rowsAt st W₁ a) ≡ len t
-      long = ap (λ (z : List S.Node). length (nth z a .rows)) (mv .is) ∙ H.whole-long top second b-in
+      long = ap (λ (z : List S.Node). length (nth z a .rows)) (mv .is) ∙ P.whole-long top second b-in
 
-      pub to-split : {n k : ℕ} → n ≡ length (rowsAt st W₁ a) → k ≡ half n → ToSplit st W₁ a b k
-      to-split en ek =
+      -- the half of the n rows that the code counts
+      pub keeps-half : {n keep : ℕ} → n ≡ length (rowsAt st W₁ a) → keep ≡ half n → Keeps h t keep (half (len t))
+      keeps-half en ek = record { rows = ek ∙ ap half (en ∙ long); within = omega arith }
+
+      pub to-split : {keep k : ℕ} → Keeps h t keep k → ToSplit st W₁ a b keep
+      to-split keeps =
           record {
             held = mv .held;
             slot = a-nodes;
             slot2 = b-nodes;
-            apart = H.a-b top second b-in;
-            free = ap (λ (z : List S.Node). nth z b) (mv .is) ∙ H.b-unused top second b-in;
-            within = omega (arith, en, ek);
+            apart = P.a-b top second b-in;
+            free = ap (λ (z : List S.Node). nth z b) (mv .is) ∙ P.b-unused top second b-in;
+            within = omega (arith, keeps .rows, keeps .within, long);
           }
 
-      module _ {n k : ℕ} (en : n ≡ length (rowsAt st W₁ a)) (ek : k ≡ half n) {W₂ : List ℕ} (sp : Now st W₁ W₂ (splitNodes (nodes st W₁) a b k)) where
-        split-is : nodes st W₂ ≡ splitNodes (moved (st .root) ns a) a b (half (len t))
-        split-is = sp .is ∙ (λ j. splitNodes (mv .is j) a b ((ek ∙ ap half (en ∙ long)) j))
+      module _ {keep k : ℕ} (keeps : Keeps h t keep k) {W₂ : List ℕ} (sp : Now st W₁ W₂ (splitNodes (nodes st W₁) a b keep)) where
+        split-is : nodes st W₂ ≡ splitNodes (moved (st .root) ns a) a b k
+        split-is = sp .is ∙ (λ j. splitNodes (mv .is j) a b (keeps .rows j))
 
         pub to-crown : ToCrown st W₂ h a b
         to-crown =
@@ -115,25 +129,21 @@ module _ {st : Settings} {W₀ : List ℕ} {h : ℕ} {spare : Spare} (pre : ToSp
               root = keeps-root (pre .keeps);
               slot = a-nodes;
               slot2 = b-nodes;
-              sums = subst (λ (z : List S.Node). Sums h (nth z a .rows)) (sym split-is) (H.lower-sums top second b-in);
-              sums2 = subst (λ (z : List S.Node). Sums h (nth z b .rows)) (sym split-is) (H.upper-sums top second b-in);
-              bare = ap (λ (z : List S.Node). nth z (st .root) .rows) split-is ∙ H.split-bare top second b-in;
+              sums = subst (λ (z : List S.Node). Sums h (nth z a .rows)) (sym split-is) (P.lower-sums top second b-in k);
+              sums2 = subst (λ (z : List S.Node). Sums h (nth z b .rows)) (sym split-is) (P.upper-sums top second b-in k);
+              bare = ap (λ (z : List S.Node). nth z (st .root) .rows) split-is ∙ P.split-bare top second b-in k;
             }
 
         module _ {W₃ : List ℕ} (cr : Now st W₂ W₃ (crowned (st .root) (nodes st W₂) h a b)) where
-          crown-is : nodes st W₃ ≡ H.above top second b-in
-          crown-is = cr .is ∙ ap (λ (z : List S.Node). crowned (st .root) z h a b) split-is ∙ H.crowned-is top second b-in
+          crown-is : nodes st W₃ ≡ P.above top second b-in k
+          crown-is = cr .is ∙ ap (λ (z : List S.Node). crowned (st .root) z h a b) split-is ∙ P.crowned-is top second b-in k
 
           pub upper-taken : ToTake st W₃ rest
           upper-taken =
-              spared-taken st W₁ lo W₃ (cr .held) more (ap unusedOf crown-is ∙ H.above-unused top second b-in ∙ ap others (sym moved-unused))
+              spared-taken st W₁ lo W₃ (cr .held) more (ap unusedOf crown-is ∙ P.above-unused top second b-in k ∙ ap others (sym moved-unused))
 
-          pub split-done : {r : Spare} → Spared (nodes st W₃) r → Halved st W₀ W₃ h r
-          split-done l =
-              record {
-                becomes =
-                    now-holds st W₀ W₃ (H.above top second b-in) (indexAt (st .root) ns h) _
-                    (record { held = cr .held; is = crown-is; header = cr .header ∙ sp .header ∙ mv .header })
-                    (H.above-holds top second b-in) (H.above-frame top second b-in);
-                spared = l;
-              }
+          pub split-done : Becomes st W₀ W₃ (indexAt (st .root) ns h) (cutRoot k h t (unusedOf ns))
+          split-done =
+              now-holds st W₀ W₃ (P.above top second b-in k) (indexAt (st .root) ns h) _
+              (record { held = cr .held; is = crown-is; header = cr .header ∙ sp .header ∙ mv .header })
+              (P.above-holds top second b-in k) (P.above-frame top second b-in k)

@@ -14,7 +14,7 @@ use Rattle.slots.proofs.Nodes.{become}
 use Rattle.slots_raw.proofs.Over.{map-append, map-take, map-drop}
 use Rattle.model.specs.declared.Settings.{Settings}
 use Rattle.model.specs.Tree.{Item, Tree, len, refill}
-use Rattle.model.specs.Share.{half, halved, handed, shareBack, shareOn}
+use Rattle.model.specs.Share.{Two, half, cutAt, handed, shareBack, shareOn}
 use Rattle.model.specs.Sound.{InLimits}
 use Rattle.model.proofs.Settles.{back-same, on-same}
 use Rattle.tree.specs.Bridge.{rowFor, nodeFor}
@@ -33,7 +33,11 @@ recut-on st h c n lim = record { first = refl; second = refl; items = on-same st
 abbrev pub both : (h : ℕ) → Tree h → Tree h → Tree h
 both h p c = refill p (p .items ++ c .items)
 
-recut-even : (h : ℕ) (p c : Tree h) → Recut h p c (halved (both h p c) (c .slot) .lower) (halved (both h p c) (c .slot) .upper)
+-- evened out
+abbrev pub even : (h : ℕ) → Tree h → Tree h → Two (Item h)
+even h p c = cutAt (half (len (both h p c))) (both h p c) (c .slot)
+
+recut-even : (h : ℕ) (p c : Tree h) → Recut h p c (even h p c .lower) (even h p c .upper)
 recut-even h p c = record { first = refl; second = refl; items = take-append-drop (half (len (both h p c))) (p .items ++ c .items) }
 
 -- ROWS OF TREES
@@ -129,7 +133,7 @@ module _ {st : Settings} {W : List ℕ} {h s i : ℕ} {b : List (Tree h)} {p c :
       let e = (λ j. forwardNodes ns (ex j) (ey j) ((ek ∙ handed-on) j)) ∙ on-cut ns h p c (own-lower t) (own-upper t) (handed st p c) (apart-two t) in
       record { recut = recut-on st h p c limits; lower = ex; upper = ey; now = become st W W₁ _ _ w e }
 
-  pub evened : Now st W W₁ (levelNodes ns x y) → Moves (halved (both h p c) (c .slot) .lower) (halved (both h p c) (c .slot) .upper)
+  pub evened : Now st W W₁ (levelNodes ns x y) → Moves (even h p c .lower) (even h p c .upper)
   evened w =
       let e = (λ j. levelNodes ns (ex j) (ey j)) ∙ even-cut ns h p c (own-lower t) (own-upper t) in
       record { recut = recut-even h p c; lower = ex; upper = ey; now = become st W W₁ _ _ w e }

@@ -13,7 +13,7 @@ use Rattle.slots.specs.Nodes.{nodes, rowsAt}
 use Rattle.model.specs.declared.Settings.{Settings}
 use Rattle.model.specs.Lists.{one}
 use Rattle.model.specs.Tree.{Node, Tree, len, lowest, others}
-use Rattle.model.specs.Share.{Row, Place, full, halved, shareBack, shareOn, splitOver, shareNext, shareOut, followed, stay, stepBack}
+use Rattle.model.specs.Share.{Row, Place, full, half, cutAt, shareBack, shareOn, splitOver, shareNext, shareOut, followed, stay, stepBack}
 use Rattle.model.specs.Sound.{InLimits}
 use Rattle.model.proofs.Lists.{all-head, all-tail}
 use Rattle.model.proofs.Settles.{on-stocked, back-stocked}
@@ -78,7 +78,8 @@ module _ (st : Settings) {X : Type 0} where
   split-fits c a us le = rw (le-leb (len c) (st .order) le) refl
 
   split-over : (c : Node X) (a : List (Node X)) (us : List ℕ) → st .order < len c
-      → followed (splitOver st c us) a ≡ record { nodes = halved c (lowest us) .lower ∷ halved c (lowest us) .upper ∷ a; unused = others us }
+      → let two = cutAt (half (len c)) c (lowest us) in
+      followed (splitOver st c us) a ≡ record { nodes = two .lower ∷ two .upper ∷ a; unused = others us }
   split-over c a us lt = rw (lt-leb (len c) (st .order) lt) refl
 
   next-fits : (c : Node X) (a : List (Node X)) (us : List ℕ) → len c ≤ st .order → shareNext st c a us ≡ record { nodes = c ∷ a; unused = us }
@@ -112,12 +113,9 @@ module _ {st : Settings} {W : List ℕ} {h s i : ℕ} {spare : Spare} {k : ℕ} 
       subst (λ (q : Row (Tree h)). Left st W W h s spare (kidsAt (nodes st W) h s) (stay b q)) (sym (next-fits st c a (unusedOf (nodes st W)) le)) (stays-left t)
 
   pub over-rowed : (W₁ : List ℕ) (r : Spare) → st .order < len c
-      → Left st W W₁ h s r (kidsAt (nodes st W) h s)
-      (record {
-        before = b;
-        rest = halved c (lowest (unusedOf (nodes st W))) .lower ∷ halved c (lowest (unusedOf (nodes st W))) .upper ∷ a;
-        unused = others (unusedOf (nodes st W));
-      })
+      → let us = unusedOf (nodes st W) in
+      let two = cutAt (half (len c)) c (lowest us) in
+      Left st W W₁ h s r (kidsAt (nodes st W) h s) (record { before = b; rest = two .lower ∷ two .upper ∷ a; unused = others us })
       → Left st W W₁ h s r (kidsAt (nodes st W) h s) (stay b (followed (splitOver st c (unusedOf (nodes st W))) a))
   over-rowed W₁ r lt x =
       subst (λ (q : Row (Tree h)). Left st W W₁ h s r (kidsAt (nodes st W) h s) (stay b q)) (sym (split-over st c a (unusedOf (nodes st W)) lt)) x

@@ -5,7 +5,7 @@ ghost use Prim.Native.Nat.{_+_, _≤_, min};
 ghost use Rattle.words.specs.Words.{words};
 ghost use Rattle.slots.specs.Nodes.{nodes};
 ghost use Rattle.model.specs.Tree.{len, lowest, others};
-ghost use Rattle.model.specs.Share.{halved, shareBack, shareOn, splitOver, shareNext, followed};
+ghost use Rattle.model.specs.Share.{half, cutAt, shareBack, shareOn, splitOver, shareNext, followed};
 ghost use Rattle.model.specs.declared.ChangeResult.the-variants.{Split};
 ghost use Rattle.model.specs.Contracts.{Says};
 ghost use Rattle.tree.specs.Bridge.{unusedOf};
@@ -101,7 +101,7 @@ fn split_over(
     split_child(pool, st, below, s, i, spare)
 }
 
-// The upper half of child `i` goes to the lowest unused slot, and the next one is looked for.
+// Child `i` keeps the half of its rows, the others go to the lowest unused slot, and the next one is looked for.
 fn split_child(
     pool: &mut [u8],
     st: Settings,
@@ -114,7 +114,8 @@ fn split_child(
     ensures { λ r. let W = words (now (pool .entry)) in
         let ns = nodes st W in
         let us = unusedOf ns in
-        let two = halved (childAt ns below s i) (lowest us) in
+        let c = childAt ns below s i in
+        let two = cutAt (half (len c)) c (lowest us) in
         ⌜ Rowed st W (words (now (pool .exit))) below s i r (record
         { nodes = two .lower ∷ two .upper ∷ afterAt ns below s i; unused = others us }) ⌝ }
 {

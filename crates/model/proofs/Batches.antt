@@ -7,23 +7,23 @@ use mathlib.Core.List.{List, [], _∷_, _++_, append-nil}
 use Prim.Native.Nat.{ℕ, zero, suc, _+_, _*_, _≤_, _<_, max}
 use native.Mathlib.Omega.{arith}
 use native.Mathlib.Nat.{le-refl, le-trans, mul-suc, mul-zero}
-use lib.ListN.{length, take, drop, length-take, length-drop, take-append-drop}
+use lib.ListN.{length, take, drop, take-append-drop}
 use Rattle.model.specs.declared.Counts.{Counts}
 use Rattle.model.specs.declared.Settings.{Settings}
 use Rattle.model.specs.Lists.{hit, times, All, none, one, nil}
-use Rattle.model.specs.Tree.{Item, Tree, Index, len, depth, slots, entriesOf, slotsOf, others, release}
+use Rattle.model.specs.Tree.{Item, Tree, Index, len, depth, slots, entriesOf, slotsOf, lowest, others, release}
 use Rattle.model.specs.Plain.{Task, plainList, plainCounts, noCounts}
 use Rattle.model.specs.Share.{half}
 use Rattle.model.specs.declared.ChangeResult.{ChangeResult}
 use Rattle.model.specs.declared.ChangeResult.the-variants.{Unchanged, Remove, Split, Absorb, Changed}
-use Rattle.model.specs.Change.{isChange, Run, Outcome, change, noCeiling, splitRoot, settleRoot, Batched, changeRoot, collapse, batch}
+use Rattle.model.specs.Change.{isChange, Run, Outcome, change, noCeiling, cutRoot, settleRoot, Batched, changeRoot, collapse, batch}
 use Rattle.model.specs.Refuse.{needed}
 use Rattle.model.specs.Sound.{InLimits, Stocked, Whole, Rooted, Sorted, Ascending}
 use Rattle.model.specs.Contracts.{flat, OverFull, Says, Rising, Removing, Given, Ready, Enough}
 use Rattle.model.proofs.Lists.{all-left, all-right, all-head, times-append}
 use Rattle.model.proofs.Plain.{list-sorted}
 use Rattle.model.proofs.Trees.{flat-append, slotsIn, slots-append}
-use Rattle.model.proofs.Settles.{times-release, length-others, others-up, release-up}
+use Rattle.model.proofs.Settles.{times-release, length-others, others-up, release-up, Fair, half-fair, cut-stocked}
 use Rattle.model.proofs.Changes.{Did, did-none, did-then, did-left, did-rising, stocked-ready, Owes, change-law, interior-strolled}
 
 -- THE ROOT'S RESULT
@@ -39,35 +39,32 @@ ready-few st zero n r = r
 ready-few st (suc h) n r = r .few
 
 module _ (st : Settings) (lim : InLimits st) where
-  split-list : (h : ℕ) (t : Tree h) (unused : List ℕ) → entriesOf (splitRoot h t unused) ≡ flat h (t .items)
-  split-list h t unused =
-      ap (flat h (take (half (len t)) (t .items)) ++_) (append-nil (flat h (drop (half (len t)) (t .items))))
-      ∙ sym (flat-append h (take (half (len t)) (t .items)) (drop (half (len t)) (t .items))) ∙ ap (flat h) (take-append-drop (half (len t)) (t .items))
+  -- a root cut at k
+  cut-list : (k h : ℕ) (t : Tree h) (unused : List ℕ) → entriesOf (cutRoot k h t unused) ≡ flat h (t .items)
+  cut-list k h t unused =
+      ap (flat h (take k (t .items)) ++_) (append-nil (flat h (drop k (t .items))))
+      ∙ sym (flat-append h (take k (t .items)) (drop k (t .items))) ∙ ap (flat h) (take-append-drop k (t .items))
 
-  low-stocked : (h s : ℕ) (t : Tree h) → OverFull st t → Stocked st {X = Item h} (record { slot = s; items = take (half (len t)) (t .items) })
-  low-stocked h s t o = record { some = simp length-take (omega (arith, o .over)); few = simp length-take (omega (arith, o .twice)) }
+  cut-whole : (k h : ℕ) (t : Tree h) (unused : List ℕ) → All (Whole st h) (t .items) → Fair st k (len t)
+      → All (Whole st (suc h)) (cutRoot k h t unused .root .items)
+  cut-whole k h t unused w f =
+      let v : All (Whole st h) (take k (t .items) ++ drop k (t .items)) = rw (take-append-drop k (t .items)) w in
+      let parts = cut-stocked {X = Item h} k (record { slot = lowest unused; items = t .items }) (lowest (others unused)) f in
+      one (parts .0, all-left _ _ v) (one (parts .1, all-right (take k (t .items)) _ v) none)
 
-  high-stocked : (h s : ℕ) (t : Tree h) → OverFull st t → Stocked st {X = Item h} (record { slot = s; items = drop (half (len t)) (t .items) })
-  high-stocked h s t o = record { some = simp length-drop (omega (arith, o .over, lim .wide)); few = simp length-drop (omega (arith, o .twice)) }
-
-  split-whole : (h : ℕ) (t : Tree h) (unused : List ℕ) → All (Whole st h) (t .items) → OverFull st t → All (Whole st (suc h)) (splitRoot h t unused .root .items)
-  split-whole h t unused w o =
-      let v : All (Whole st h) (take (half (len t)) (t .items) ++ drop (half (len t)) (t .items)) = rw (take-append-drop (half (len t)) (t .items)) w in
-      one (low-stocked h _ t o, all-left _ _ v) (one (high-stocked h _ t o, all-right (take (half (len t)) (t .items)) _ v) none)
-
-  split-slots : (s h : ℕ) (t : Tree h) (unused : List ℕ) → 2 ≤ length unused
-      → times s (slotsOf (splitRoot h t unused)) + times s (splitRoot h t unused .unused) ≡ times s (slots (suc h) t) + times s unused
-  split-slots s h t [] two = absurd (omega arith)
-  split-slots s h t (a ∷ []) two = absurd (omega arith)
-  split-slots s h t (a ∷ (b ∷ unused)) two =
-      let lo : List (Item h) = take (half (len t)) (t .items) in
-      let hi : List (Item h) = drop (half (len t)) (t .items) in
+  cut-slots : (s k h : ℕ) (t : Tree h) (unused : List ℕ) → 2 ≤ length unused
+      → times s (slotsOf (cutRoot k h t unused)) + times s (cutRoot k h t unused .unused) ≡ times s (slots (suc h) t) + times s unused
+  cut-slots s k h t [] two = absurd (omega arith)
+  cut-slots s k h t (a ∷ []) two = absurd (omega arith)
+  cut-slots s k h t (a ∷ (b ∷ unused)) two =
+      let lo : List (Item h) = take k (t .items) in
+      let hi : List (Item h) = drop k (t .items) in
       omega (
         arith,
         times-append s (slotsIn h lo) (b ∷ (slotsIn h hi ++ [])),
         times-append s (slotsIn h hi) [],
         slots-append s h lo hi,
-        ap (λ (z : List (Item h)). times s (slotsIn h z)) (take-append-drop (half (len t)) (t .items)),
+        ap (λ (z : List (Item h)). times s (slotsIn h z)) (take-append-drop k (t .items)),
       )
 
   pub record RootSettled (r : ChangeResult) (h : ℕ) (t : Tree h) (unused : List ℕ) (y : Index) : Type 0 where
@@ -105,11 +102,13 @@ module _ (st : Settings) (lim : InLimits st) where
   root-settled Absorb h n t unused w s g says kept = stays Absorb h t unused w s (stocked-ready st h t (says (λ q. absurd (true≢false q))))
   root-settled Split h n t unused w s g says kept =
       let o : OverFull st t = says (λ q. absurd (true≢false q)) in
+      let k : ℕ = half (len t) in
+      let fair : Fair st (half (len t)) (len t) = half-fair st lim (len t) (o .over) (o .twice) in
       record {
-        list = split-list h t unused;
-        fine = record { whole = split-whole h t unused w o; sorted = rw (split-list h t unused) s; ready = record { some = omega arith; few = omega (arith, lim .wide) } };
+        list = cut-list k h t unused;
+        fine = record { whole = cut-whole k h t unused w fair; sorted = rw (cut-list k h t unused) s; ready = record { some = omega arith; few = omega (arith, lim .wide) } };
         rootSlot = refl;
-        slots = λ two i. split-slots i h t unused (two refl);
+        slots = λ two i. cut-slots i k h t unused (two refl);
         taken = omega (arith, length-others unused, length-others (others unused));
         height = omega arith;
         lower = λ ns. absurd (ns refl);

@@ -2,20 +2,20 @@
 -- Assumes nothing.
 use mathlib.Core.Path.{_≡_, refl, sym, ap, _∙_}
 use mathlib.Core.List.{List, [], _∷_, _++_, reverseAux, append-assoc, append-nil}
-use Prim.Native.Nat.{ℕ, _*_, _≤_, _<_}
+use Prim.Native.Nat.{ℕ, _-_, _*_, _≤_, _<_}
 use native.Mathlib.Omega.{arith}
 use lib.ListN.{drop, length-append, length-take, length-drop}
 use borrow.Author.Tests.{leb-true, leb-false}
 use Rattle.model.specs.declared.Settings.{Settings}
 use Rattle.model.specs.Lists.{All, none, one}
 use Rattle.model.specs.Tree.{Node, len, lowest}
-use Rattle.model.specs.Share.{Two, Row, halved, fits, full, shareBack, shareOn, splitOver, shareNext, shareOut}
+use Rattle.model.specs.Share.{Two, Row, half, cutAt, fits, full, shareBack, shareOn, splitOver, shareNext, shareOut}
 use Rattle.model.specs.Sound.{InLimits}
 use Rattle.model.specs.Demands.{SharedOut, OverFullChild}
 use Rattle.model.specs.Contracts.{joined, back}
 use Rattle.model.proofs.Lists.{by-test, all-append}
 use Rattle.model.proofs.Trees.{joined-append, back-joined}
-use Rattle.model.proofs.Settles.{halves-same, on-same, back-same}
+use Rattle.model.proofs.Settles.{Fair, half-fair, cut-same, cut-stocked, on-same, back-same}
 
 module _ (st : Settings) (lim : InLimits st) {X : Type 0} where
   abbrev Sized : Node X → Type 0
@@ -24,11 +24,14 @@ module _ (st : Settings) (lim : InLimits st) {X : Type 0} where
   abbrev Few : Node X → Type 0
   Few n = len n ≤ st .order
 
-  lower-sized : (c : Node X) (s : ℕ) → st .order < len c → len c ≤ 2 * st .order → Sized (halved c s .lower)
-  lower-sized c s a b = (simp length-take (omega (arith, lim .least)), simp length-take (omega arith))
-
-  upper-sized : (c : Node X) (s : ℕ) → st .order < len c → len c ≤ 2 * st .order → Sized (halved c s .upper)
-  upper-sized c s a b = (simp length-drop (omega (arith, lim .least)), simp length-drop (omega arith))
+  -- the parts of a fair cut that leaves the minimum in both
+  cut-sized : (k : ℕ) (c : Node X) (s : ℕ) → Fair st k (len c) → st .minimum ≤ k → st .minimum ≤ len c - k
+      → All Sized (cutAt k c s .lower ∷ cutAt k c s .upper ∷ [])
+  cut-sized k c s f a b =
+      let parts = cut-stocked k c s f in
+      let lower : Sized (cutAt k c s .lower) = (simp length-take (omega (arith, f .more)), parts .0 .few) in
+      let upper : Sized (cutAt k c s .upper) = (simp length-drop (omega arith), parts .1 .few) in
+      one lower (one upper none)
 
   back-lower : (p c : Node X) → len p < st .order → st .order < len c → Sized (shareBack st p c .lower)
   back-lower p c a b =
@@ -57,11 +60,11 @@ module _ (st : Settings) (lim : InLimits st) {X : Type 0} where
       by-test (λ (r : Row (Node X)). All Sized (r .nodes)) (fits st c) (λ e. one (a, leb-true _ _ e) none)
       (λ e.
       let over : st .order < len c = leb-false _ _ e in
-      one (lower-sized c (lowest unused) over b) (one (upper-sized c (lowest unused) over b) none))
+      cut-sized (half (len c)) c (lowest unused) (half-fair st lim (len c) over b) (omega (arith, lim .least)) (omega (arith, lim .least)))
 
   split-same : (c : Node X) (unused : List ℕ) → joined (splitOver st c unused .nodes) ≡ c .items
   split-same c unused =
-      by-test (λ (r : Row (Node X)). joined (r .nodes) ≡ c .items) (fits st c) (λ e. append-nil (c .items)) (λ e. halves-same st lim c (lowest unused))
+      by-test (λ (r : Row (Node X)). joined (r .nodes) ≡ c .items) (fits st c) (λ e. append-nil (c .items)) (λ e. cut-same (half (len c)) c (lowest unused))
 
   shared-same : (c n : Node X) (after : List (Node X)) (unused : List ℕ)
       → joined (splitOver st (shareOn st c n .lower) unused .nodes ++ (shareOn st c n .upper ∷ after)) ≡ c .items ++ (n .items ++ joined after)

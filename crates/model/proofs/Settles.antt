@@ -11,7 +11,7 @@ use borrow.Author.Tests.{leb-true, leb-false, ltb-true, ltb-false}
 use Rattle.model.specs.declared.Settings.{Settings}
 use Rattle.model.specs.Lists.{hit, times, All, none, one, nil, cons}
 use Rattle.model.specs.Tree.{Node, len, refill, lowest, others, release}
-use Rattle.model.specs.Share.{Two, Row, Place, followed, stay, half, halved, fits, full, handed, shareBack, shareOn, splitOver, shareNext, shareOut, join, absorb, takeOut}
+use Rattle.model.specs.Share.{Two, Row, Place, followed, stay, half, cutAt, fits, full, handed, shareBack, shareOn, splitOver, shareNext, shareOut, join, absorb, takeOut}
 use Rattle.model.specs.declared.ChangeResult.{ChangeResult}
 use Rattle.model.specs.declared.ChangeResult.the-variants.{Unchanged, Remove, Split, Absorb, Changed}
 use Rattle.model.specs.Change.{resultOf, isChange, settle}
@@ -56,6 +56,27 @@ release-up x (cons {x = u} {xs = us} h a) =
     (λ q. let lt : x < u = ltb-true _ _ q in cons (one (omega arith) (all-map (λ w g. omega arith) h)) (cons h a))
     (λ q. cons (release-above u x (ltb-false _ _ q) h) (release-up x a))
 
+-- A CUT of n items at k is fair: both parts have 1 to order items
+pub record Fair (st : Settings) (k n : ℕ) : Type 0 where
+  pub some : 0 < k
+  pub few : k ≤ st .order
+  pub more : k < n
+  pub rest : n - k ≤ st .order
+
+-- the half of an over-full node is
+pub half-fair : (st : Settings) → InLimits st → (n : ℕ) → st .order < n → n ≤ 2 * st .order → Fair st (half n) n
+half-fair st lim n over twice = record { some = omega arith; few = omega arith; more = omega (arith, lim .wide); rest = omega arith }
+
+module _ {X : Type 0} (k : ℕ) (c : Node X) (s : ℕ) where
+  pub cut-same : joined (cutAt k c s .lower ∷ cutAt k c s .upper ∷ []) ≡ c .items
+  cut-same = simp append-nil (take-append-drop k (c .items))
+
+  pub cut-stocked : {st : Settings} → Fair st k (len c) → Stocked st (cutAt k c s .lower) × Stocked st (cutAt k c s .upper)
+  cut-stocked f = (
+    record { some = simp length-take (omega arith); few = simp length-take (omega arith) },
+    record { some = simp length-drop (omega arith); few = simp length-drop (omega arith) },
+  )
+
 -- A ROW MADE OF OTHER NODES, of which it may take k more
 
 module _ (st : Settings) {X : Type 0} where
@@ -84,17 +105,23 @@ module _ (st : Settings) {X : Type 0} where
         up = m .up;
       }
 
+  -- a node cut in two takes one more
+  cut-remade : (k : ℕ) (c : Node X) (unused : List ℕ) → Fair st k (len c)
+      → let two = cutAt k c (lowest unused) in Remade 1 (c ∷ []) unused (record { nodes = two .lower ∷ two .upper ∷ []; unused = others unused })
+  cut-remade k c unused f =
+      let parts = cut-stocked k c (lowest unused) f in
+      record {
+        same = cut-same k c (lowest unused) ∙ sym (append-nil (c .items));
+        stocked = one (parts .0) (one (parts .1) none);
+        some = omega arith;
+        few = omega arith;
+        slots = λ le s. omega (arith, times-taken s unused le);
+        taken = omega (arith, length-others unused);
+        grows = λ z s. absurd (omega (arith, z));
+        up = others-up;
+      }
+
   module _ (lim : InLimits st) where
-    lower-stocked : (c : Node X) (s : ℕ) → OverFull st c → Stocked st (halved c s .lower)
-    lower-stocked c s o = record { some = simp length-take (omega (arith, o .over)); few = simp length-take (omega (arith, o .twice)) }
-
-    upper-stocked : (c : Node X) (s : ℕ) → OverFull st c → Stocked st (halved c s .upper)
-    upper-stocked c s o =
-        record { some = simp length-drop (omega (arith, o .over, lim .wide)); few = simp length-drop (omega (arith, o .twice)) }
-
-    pub halves-same : (c : Node X) (s : ℕ) → joined (halved c s .lower ∷ halved c s .upper ∷ []) ≡ c .items
-    halves-same c s = simp append-nil (take-append-drop (half (len c)) (c .items))
-
     split-remade : (c : Node X) (unused : List ℕ) → 0 < len c → len c ≤ 2 * st .order → Remade 1 (c ∷ []) unused (splitOver st c unused)
     split-remade c unused pos twice =
         by-test (Remade 1 (c ∷ []) unused) (fits st c)
@@ -108,18 +135,7 @@ module _ (st : Settings) {X : Type 0} where
           grows = λ z s. omega arith;
           up = λ a. a;
         })
-        (λ e.
-        let o : OverFull st c = record { over = leb-false _ _ e; twice = twice } in
-        record {
-          same = halves-same c (lowest unused) ∙ sym (append-nil (c .items));
-          stocked = one (lower-stocked c (lowest unused) o) (one (upper-stocked c (lowest unused) o) none);
-          some = omega arith;
-          few = omega arith;
-          slots = λ le s. omega (arith, times-taken s unused le);
-          taken = omega (arith, length-others unused);
-          grows = λ z s. absurd (omega (arith, z));
-          up = others-up;
-        })
+        (λ e. cut-remade (half (len c)) c unused (half-fair st lim (len c) (leb-false _ _ e) twice))
 
     -- what a child hands on and what it keeps are what it had
     pub on-same : (c n : Node X) → shareOn st c n .lower .items ++ shareOn st c n .upper .items ≡ c .items ++ n .items
@@ -222,10 +238,10 @@ module _ (st : Settings) {X : Type 0} where
           up = release-up (b .slot);
         })
         (λ e.
-        let o : OverFull st both = record { over = leb-false _ _ e; twice = twice } in
+        let parts = cut-stocked (half (len both)) both (b .slot) (half-fair st lim (len both) (leb-false _ _ e) twice) in
         record {
-          same = halves-same both (b .slot) ∙ sym whole;
-          stocked = one (lower-stocked both (b .slot) o) (one (upper-stocked both (b .slot) o) none);
+          same = cut-same (half (len both)) both (b .slot) ∙ sym whole;
+          stocked = one (parts .0) (one (parts .1) none);
           some = omega arith;
           few = omega arith;
           slots = λ le s. refl;

@@ -13,7 +13,7 @@ use Rattle.model.specs.declared.ChangeResult.the-variants.{Unchanged, Re
 use Rattle.model.specs.Tree.{Node, Item, Tree, Index, len, refill, greatestKey, lowest, others, release}
 use Rattle.model.specs.declared.Effect.{Effect}
 use Rattle.model.specs.Plain.{Task, alters, step, effectOn, count, noCounts}
-use Rattle.model.specs.Share.{Place, halved, shareOut, absorb, takeOut}
+use Rattle.model.specs.Share.{Place, half, cutAt, shareOut, absorb, takeOut}
 
 -- RESULTS
 
@@ -129,11 +129,15 @@ change st (suc h) = changeInterior st (greatestKey (suc h)) (change st h)
 abbrev pub noCeiling : ℕ
 noCeiling = 2 ^ 64 - 1
 
--- a root above the two halves of t, the lower in the lowest unused slot and the upper in the next
-abbrev pub splitRoot : (h : ℕ) → Tree h → List ℕ → Index
-splitRoot h t unused =
-    let two = halved (record { slot = lowest unused; items = t .items }) (lowest (others unused)) in
+-- a root above two parts of t: the lower has k items and takes the lowest unused slot, the upper takes the next
+abbrev pub cutRoot : ℕ → (h : ℕ) → Tree h → List ℕ → Index
+cutRoot k h t unused =
+    let two = cutAt k (record { slot = lowest unused; items = t .items }) (lowest (others unused)) in
     record { height = suc h; root = record { slot = t .slot; items = two .lower ∷ two .upper ∷ [] }; unused = others (others unused) }
+
+-- a root that is split keeps the half of its items in the lower part
+abbrev pub splitRoot : (h : ℕ) → Tree h → List ℕ → Index
+splitRoot h t unused = cutRoot (half (len t)) h t unused
 
 abbrev pub settleRoot : ChangeResult → (h : ℕ) → Tree h → List ℕ → Index
 settleRoot Unchanged h t unused = record { height = h; root = t; unused = unused }

@@ -38,18 +38,15 @@ module _ {Y : Type 0} where
   stepBack [] r = stay [] r
   stepBack (p ∷ before) r = record { before = before; rest = p ∷ r .nodes; unused = r .unused }
 
--- SPLITTING
+-- A NODE CUT in two
 
--- how many of n items the lower node keeps
+-- how many of n items the lower node has where they are halved
 abbrev pub half : ℕ → ℕ
 half n = (n + 1) / 2
 
--- a node split: the lower part keeps its slot and k items, the upper takes slot s
+-- the lower part keeps the node's slot and k items, the upper takes slot s
 abbrev pub cutAt : {X : Type 0} → ℕ → Node X → ℕ → Two X
 cutAt k n s = record { lower = refill n (take k (n .items)); upper = record { slot = s; items = drop k (n .items) } }
-
-abbrev pub halved : {X : Type 0} → Node X → ℕ → Two X
-halved n s = cutAt (half (len n)) n s
 
 module _ (st : Settings) {X : Type 0} where
   abbrev pub fits : Node X → Bool
@@ -73,9 +70,10 @@ module _ (st : Settings) {X : Type 0} where
 
   -- AN OVER-FULL CHILD shares with the previous sibling, then with the next, then is split, as long as it does not fit
 
+  -- one that is split keeps the half of its items, and the rest takes the lowest unused slot
   abbrev pub splitOver : Node X → List ℕ → Row (Node X)
   splitOver c unused =
-      let two = halved c (lowest unused) in
+      let two = cutAt (half (len c)) c (lowest unused) in
       cond (fits c) (record { nodes = c ∷ []; unused = unused }) (record { nodes = two .lower ∷ two .upper ∷ []; unused = others unused })
 
   abbrev pub shareNext : Node X → List (Node X) → List ℕ → Row (Node X)
@@ -93,11 +91,11 @@ module _ (st : Settings) {X : Type 0} where
 
   -- A CHILD BELOW THE MINIMUM is joined with the previous sibling, or with the next if it is the first. An only child stays.
 
-  -- a joint length up to order merges into the lower node's slot; a longer one is halved
+  -- a joint length up to order merges into the lower node's slot; a longer one is evened out, the half in the lower node
   abbrev pub join : Node X → Node X → List ℕ → Row (Node X)
   join a b unused =
       let both = refill a (a .items ++ b .items) in
-      let two = halved both (b .slot) in
+      let two = cutAt (half (len both)) both (b .slot) in
       cond (fits both) (record { nodes = both ∷ []; unused = release (b .slot) unused })
       (record { nodes = two .lower ∷ two .upper ∷ []; unused = unused })
 

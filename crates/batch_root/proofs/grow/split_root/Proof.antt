@@ -1,7 +1,6 @@
 -- `split_root` meets its contract: what each call asks is there, and the last leaves the model's split (`proofs/Grows`). Assumes nothing.
-use mathlib.Core.Path.{refl}
 use borrow.Author.Needs.{needs}
-use Rattle.batch_root.proofs.Grows.{to-move, lower-taken, to-split, to-crown, upper-taken, split-done}
+use Rattle.batch_root.proofs.Grows.{to-move, lower-taken, lower-at, keeps-half, to-split, to-crown, upper-taken, split-done}
 use Rattle.batch_root.proofs.grow.split_root.Statement.{statement}
 use Rattle.batch_root.proofs.grow.split_root.Tie as tie
 
@@ -13,8 +12,7 @@ after-taking-requires c κs =
 count-requires : tie.Need-count-requires
 count-requires c κs =
     let moved = c .before .before .before .before .before in
-    let asked = to-split (moved .before .before .before .pre) (moved .move-root .ensures) (c .before .after-taking .ensures) refl refl in
-    record { held = asked .held; slot = asked .slot }
+    lower-at (moved .before .before .before .pre) (moved .move-root .ensures)
 
 split-requires : tie.Need-split-requires
 split-requires c κs =
@@ -22,8 +20,9 @@ split-requires c κs =
     let counted = kept .before in
     let new = counted .before .before in
     let moved = new .before .before .before .before in
-    to-split (moved .before .before .before .pre) (moved .move-root .ensures) (new .after-taking .ensures)
-    (counted .count .ensures .is) (kept .half .ensures)
+    let start = moved .before .before .before in
+    to-split (start .pre) (moved .move-root .ensures) (new .after-taking .ensures)
+    (keeps-half (start .pre) (moved .move-root .ensures) (new .after-taking .ensures) (counted .count .ensures .is) (kept .half .ensures))
 
 crown-requires : tie.Need-crown-requires
 crown-requires c κs =
@@ -32,8 +31,9 @@ crown-requires c κs =
     let counted = kept .before in
     let new = counted .before .before in
     let moved = new .before .before .before .before in
-    to-crown (moved .before .before .before .pre) (moved .move-root .ensures) (new .after-taking .ensures)
-    (counted .count .ensures .is) (kept .half .ensures)
+    let start = moved .before .before .before in
+    to-crown (start .pre) (moved .move-root .ensures) (new .after-taking .ensures)
+    (keeps-half (start .pre) (moved .move-root .ensures) (new .after-taking .ensures) (counted .count .ensures .is) (kept .half .ensures))
     (cut .split .ensures)
 
 after-taking-requires-2 : tie.Need-after-taking-requires-2
@@ -44,8 +44,9 @@ after-taking-requires-2 c κs =
     let counted = kept .before in
     let new = counted .before .before in
     let moved = new .before .before .before .before in
-    upper-taken (moved .before .before .before .pre) (moved .move-root .ensures) (new .after-taking .ensures)
-    (counted .count .ensures .is) (kept .half .ensures)
+    let start = moved .before .before .before in
+    upper-taken (start .pre) (moved .move-root .ensures) (new .after-taking .ensures)
+    (keeps-half (start .pre) (moved .move-root .ensures) (new .after-taking .ensures) (counted .count .ensures .is) (kept .half .ensures))
     (cut .split .ensures) (crowned .crown .ensures)
 
 returns : tie.Need-returns
@@ -56,9 +57,13 @@ returns c =
     let counted = kept .before in
     let new = counted .before .before in
     let moved = new .before .before .before .before in
-    split-done (moved .before .before .before .pre) (moved .move-root .ensures) (new .after-taking .ensures)
-    (counted .count .ensures .is) (kept .half .ensures)
-    (cut .split .ensures) (crowned .crown .ensures) (c .after-taking2 .ensures)
+    let start = moved .before .before .before in
+    record {
+      becomes = split-done (start .pre) (moved .move-root .ensures) (new .after-taking .ensures)
+          (keeps-half (start .pre) (moved .move-root .ensures) (new .after-taking .ensures) (counted .count .ensures .is) (kept .half .ensures))
+          (cut .split .ensures) (crowned .crown .ensures);
+      spared = c .after-taking2 .ensures;
+    }
 
 pub split-root-spec : {M : Type 1} → statement M
 split-root-spec =

@@ -1,9 +1,9 @@
--- `split_child` meets its contract: each step does to the pool what the model's split of the child does to the family (`Halves`). Assumes nothing.
+-- `split_child` meets its contract: each step does to the pool what the model's split of the child does to the family (`Splits`). Assumes nothing.
 use native.Mathlib.Omega.{arith}
 use borrow.Author.Needs.{needs}
 use Rattle.batch_share.proofs.Places.{sits-row}
 use Rattle.batch_share.proofs.Focuses.{poise-focus, focus-sits, child-named, focus-few}
-use Rattle.batch_share.proofs.Halves.{can-split, upper-weighs, upper-room, lower-renews, half-taken, half-left}
+use Rattle.batch_share.proofs.Splits.{keeps-half, can-split, upper-weighs, upper-room, lower-renews, cut-taken, cut-left}
 use Rattle.batch_share.proofs.share.split_child.Statement.{statement}
 use Rattle.batch_share.proofs.share.split_child.Tie as tie
 
@@ -21,7 +21,7 @@ split-requires c κs =
     let counted = kept .before in
     let child = counted .before .before in
     let t = child .before .before .before .pre in
-    can-split t _ (child-named (poise-focus t) (child .child-at .ensures) .is) (counted .count .ensures .is) (kept .half .ensures)
+    can-split t (keeps-half t (child-named (poise-focus t) (child .child-at .ensures) .is) (counted .count .ensures .is) (kept .half .ensures))
 
 weigh-requires : tie.Need-weigh-requires
 weigh-requires c κs =
@@ -30,7 +30,7 @@ weigh-requires c κs =
     let counted = kept .before in
     let child = counted .before .before in
     let t = child .before .before .before .pre in
-    upper-weighs t _ (child-named (poise-focus t) (child .child-at .ensures) .is) (counted .count .ensures .is) (kept .half .ensures) _ (cut .split .ensures)
+    upper-weighs t (keeps-half t (child-named (poise-focus t) (child .child-at .ensures) .is) (counted .count .ensures .is) (kept .half .ensures)) _ (cut .split .ensures)
 
 add-insert-row : tie.Need-add-insert-row
 add-insert-row c =
@@ -44,7 +44,7 @@ insert-row-requires c κs =
     let counted = kept .before in
     let child = counted .before .before in
     let t = child .before .before .before .pre in
-    upper-room t _ (child-named (poise-focus t) (child .child-at .ensures) .is) (counted .count .ensures .is) (kept .half .ensures) _ (cut .split .ensures)
+    upper-room t (keeps-half t (child-named (poise-focus t) (child .child-at .ensures) .is) (counted .count .ensures .is) (kept .half .ensures)) _ (cut .split .ensures)
 
 renew-requires : tie.Need-renew-requires
 renew-requires c κs =
@@ -55,7 +55,7 @@ renew-requires c κs =
     let counted = kept .before in
     let child = counted .before .before in
     let t = child .before .before .before .pre in
-    lower-renews t _ (child-named (poise-focus t) (child .child-at .ensures) .is) (counted .count .ensures .is) (kept .half .ensures) _ (cut .split .ensures) _
+    lower-renews t (keeps-half t (child-named (poise-focus t) (child .child-at .ensures) .is) (counted .count .ensures .is) (kept .half .ensures)) _ (cut .split .ensures) _
     (weighed .weigh .ensures) _ (put .insert-row .ensures)
 
 after-taking-requires : tie.Need-after-taking-requires
@@ -68,7 +68,7 @@ after-taking-requires c κs =
     let counted = kept .before in
     let child = counted .before .before in
     let t = child .before .before .before .pre in
-    half-taken t _ (child-named (poise-focus t) (child .child-at .ensures) .is) (counted .count .ensures .is) (kept .half .ensures) _ (cut .split .ensures) _
+    cut-taken t (keeps-half t (child-named (poise-focus t) (child .child-at .ensures) .is) (counted .count .ensures .is) (kept .half .ensures)) _ (cut .split .ensures) _
     (weighed .weigh .ensures) _ (put .insert-row .ensures) _ (renewed .renew .ensures)
 
 returns : tie.Need-returns
@@ -81,7 +81,7 @@ returns c =
     let counted = kept .before in
     let child = counted .before .before in
     let t = child .before .before .before .pre in
-    half-left t _ (child-named (poise-focus t) (child .child-at .ensures) .is) (counted .count .ensures .is) (kept .half .ensures) _ (cut .split .ensures) _
+    cut-left t (keeps-half t (child-named (poise-focus t) (child .child-at .ensures) .is) (counted .count .ensures .is) (kept .half .ensures)) _ (cut .split .ensures) _
     (weighed .weigh .ensures) _ (put .insert-row .ensures) _ (renewed .renew .ensures) _ (c .after-taking .ensures)
 
 pub split-child-spec : {M : Type 1} → statement M
