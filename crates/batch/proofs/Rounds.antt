@@ -27,17 +27,18 @@ use Rattle.model.proofs.Calls.{Admitted, admitted, Passes, passes}
 use Rattle.model.proofs.Demands.{sound-fine}
 use Rattle.batch_leaf.specs.declared.Run.{Run}
 use Rattle.batch_leaf.specs.declared.Subtree.{Subtree}
-use Rattle.batch_leaf.specs.Leaf.{Batch, Lent}
+use Rattle.batch_leaf.specs.Contracts.{Underway, ToWish}
 use Rattle.tree.specs.Bridge.{treeAt, unusedOf, HoldsIndex, Frame}
 use Rattle.tree.proofs.Few.{entries-most, slot-once}
 use Rattle.tree_spare.specs.Spared.{Spared}
 use Rattle.batch_node.specs.declared.Reply.{Reply}
-use Rattle.batch_node.specs.Calls.{runOf, Asked, ToChange, Answers, NodeChanged}
+use Rattle.batch_node.specs.Contracts.{runOf, Asked, ToChange, Answers, NodeChanged}
 use Rattle.batch_root.specs.declared.Root.{Root}
-use Rattle.batch_root.specs.Roots.{indexAt, ToCollapse, ToSettleRoot, RootSettled, SettledRoot, collapsed}
+use Rattle.batch_root.specs.Roots.{indexAt, collapsed}
+use Rattle.batch_root.specs.Contracts.{Holding, ToSettleRoot, RootLeft, RootSettled}
 use Rattle.batch_root.proofs.Indexes.{root-read, index-read}
 use Rattle.batch_root.proofs.Outside.{Outside, outside-start, frame-then, outside-then}
-use Rattle.batch.specs.Batch.{ToBatch, Changed}
+use Rattle.batch.specs.Contracts.{ToBatch, Changed}
 use Rattle.batch.proofs.Rooms.{Going}
 use Rattle.batch.proofs.Rooms as R
 
@@ -52,7 +53,7 @@ pub record Running (st : Settings) (W₀ : List ℕ) (h₀ : ℕ) (b : M.Call) (
   pub spared : Spared (nodes st W) (run .spare)
   pub outside : Outside (nodes st W₀) (nodes st W) (indexAt (st .root) (nodes st W₀) h₀) (indexAt (st .root) (nodes st W) h)
   pub long : length (M.tasksOf b) ≡ length (b .keys)
-  pub batch : Batch b run
+  pub batch : Underway b run
   pub going : Going st (indexAt (st .root) (nodes st W) h) (drop (run .next) (M.tasksOf b))
   pub calls : ℕ
   pub enough : length (drop (run .next) (M.tasksOf b)) ≤ calls
@@ -61,7 +62,7 @@ pub record Running (st : Settings) (W₀ : List ℕ) (h₀ : ℕ) (b : M.Call) (
 -- THE START
 
 lent-each : (o : Operation) (ps zs ks : List ℕ) → (isEach o && not (eqb (length ps) (length ks) && eqb (length zs) (length ks))) ≡ false
-    → Lent o ps zs (length ks)
+    → ToWish o ps zs (length ks)
 lent-each (Op.Set r) ps zs ks e = tt
 lent-each Op.SetEach ps zs ks e =
     let both : (eqb (length ps) (length ks) && eqb (length zs) (length ks)) ≡ true = not-false _ e in
@@ -136,7 +137,7 @@ module _ {st : Settings} {W₀ : List ℕ} {h₀ : ℕ} {b : M.Call} {W : List �
   lim : InLimits st
   lim = m .held .shape .limits
 
-  pub keeps : ToCollapse st W x
+  pub keeps : Holding st W x
   keeps =
       record {
         held = m .held;
@@ -221,7 +222,7 @@ module _ {st : Settings} {W₀ : List ℕ} {h₀ : ℕ} {b : M.Call} {W : List �
       pub returned : ToSettleRoot st W₁ (record { height = h; spare = r .run .spare }) (r .result)
       returned =
           record {
-            keeps = subst (ToCollapse st W₁) (sym called-is) (record {
+            keeps = subst (Holding st W₁) (sym called-is) (record {
               held = came .held;
               holds = called;
               apart = R.node-apart lim c g;
@@ -240,7 +241,7 @@ module _ {st : Settings} {W₀ : List ℕ} {h₀ : ℕ} {b : M.Call} {W : List �
           omega (arith, R.fewer lim c g, ap length (answers .left), ap length (n .left), length-drop (r .run .next) T, length-drop (run .next) T)
 
       -- AND ITS RESULT SETTLED
-      module _ {W₂ : List ℕ} {q : Root} (done : SettledRoot st W₁ W₂ h (r .result) q) where
+      module _ {W₂ : List ℕ} {q : Root} (done : RootSettled st W₁ W₂ h (r .result) q) where
         is : settleRoot (r .result) h (treeAt ms h (st .root)) (unusedOf ms) ≡ y
         is =
             ap (λ (v : ChangeResult). settleRoot v h (treeAt ms h (st .root)) (unusedOf ms)) (answers .result)
@@ -284,7 +285,7 @@ module _ {st : Settings} {W₀ : List ℕ} {h₀ : ℕ} {b : M.Call} {W : List �
             }
 
   -- THE END: no key is left
-  pub finish : {W′ : List ℕ} {q : Root} → length (b .keys) ≤ run .next → RootSettled st W W′ x (collapsed x) q
+  pub finish : {W′ : List ℕ} {q : Root} → length (b .keys) ≤ run .next → RootLeft st W W′ x (collapsed x) q
       → Changed st W₀ W′ h₀ b (record { counts = run .counts; root = q })
   finish {W′} {q} ge d =
       record {

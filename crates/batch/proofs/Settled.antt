@@ -7,7 +7,7 @@ use lib.ListN.{set}
 use lib.Seq.{getD-set-other}
 use Rattle.slots_raw.specs.declared.Row.{Row}
 use Rattle.slots.specs.Nodes.{nodes, nth, unused, putKind}
-use Rattle.slots.specs.Contracts.{Now}
+use Rattle.slots.specs.Contracts.{NodesPut}
 use Rattle.slots.specs.Nodes as S
 use Rattle.slots.proofs.Nodes.{nth-same}
 use Rattle.model.specs.declared.Settings.{Settings}
@@ -26,7 +26,8 @@ use Rattle.tree_spare.specs.declared.Spare.{Spare}
 use Rattle.tree_spare.proofs.Spares.{spared-same}
 use Rattle.batch_share.proofs.Puts.{blank-set}
 use Rattle.batch_root.specs.declared.Root.{Root}
-use Rattle.batch_root.specs.Roots.{indexAt, ToSettleRoot, SettledRoot, ToSplitRoot, Halved}
+use Rattle.batch_root.specs.Roots.{indexAt}
+use Rattle.batch_root.specs.Contracts.{ToSettleRoot, RootSettled, ToSplitRoot, Halved}
 use Rattle.batch_root.proofs.Indexes.{now-holds}
 use Rattle.batch_root.proofs.Sets.{no-blank, unused-same}
 
@@ -44,9 +45,9 @@ module _ {st : Settings} {W : List ℕ} {root : Root} {v : ChangeResult} (pre : 
   pub to-halve : v ≡ Split → ToSplitRoot st W h (root .spare)
   to-halve e = record { keeps = pre .keeps; spared = pre .spared; two = pre .two e }
 
-  pub split-settled : {W′ : List ℕ} {r : Spare} → v ≡ Split → Halved st W W′ h r → SettledRoot st W W′ h v (record { height = h + 1; spare = r })
+  pub split-settled : {W′ : List ℕ} {r : Spare} → v ≡ Split → Halved st W W′ h r → RootSettled st W W′ h v (record { height = h + 1; spare = r })
   split-settled {W′} {r} e d =
-      subst (λ (u : ChangeResult). SettledRoot st W W′ h u (record { height = h + 1; spare = r })) (sym e)
+      subst (λ (u : ChangeResult). RootSettled st W W′ h u (record { height = h + 1; spare = r })) (sym e)
       (record { becomes = d .becomes; height = omega arith; spared = d .spared })
 
   -- EMPTY: it is a leaf again
@@ -78,10 +79,10 @@ module _ {st : Settings} {W : List ℕ} {root : Root} {v : ChangeResult} (pre : 
       let root = slot-read ns h (st .root) in
       getD-set-other ns (st .root) s bare unused (λ q. absurd (omega (arith, e, hit-same s (t .slot) (q ∙ sym root))))
 
-  pub gone-settled : {W′ : List ℕ} → v ≡ Remove → Now st W W′ (putKind (nodes st W) (st .root) 1) → SettledRoot st W W′ h v (record { height = 0; spare = root .spare })
+  pub gone-settled : {W′ : List ℕ} → v ≡ Remove → NodesPut st W W′ (putKind (nodes st W) (st .root) 1) → RootSettled st W W′ h v (record { height = 0; spare = root .spare })
   unfolding putKind
   gone-settled {W′} e w =
-      subst (λ (u : ChangeResult). SettledRoot st W W′ h u (record { height = 0; spare = root .spare })) (sym e)
+      subst (λ (u : ChangeResult). RootSettled st W W′ h u (record { height = 0; spare = root .spare })) (sym e)
       (record {
         becomes = now-holds st W W′ leaf (indexAt (st .root) ns h) _ w (leaf-holds (pre .gone e)) leaf-frame;
         height = refl;
@@ -89,7 +90,7 @@ module _ {st : Settings} {W : List ℕ} {root : Root} {v : ChangeResult} (pre : 
       })
 
   -- ANY OTHER: it stays
-  pub stays-settled : {u : ChangeResult} → v ≡ u → settleRoot u h t (unusedOf ns) ≡ indexAt (st .root) ns h → SettledRoot st W W h v root
+  pub stays-settled : {u : ChangeResult} → v ≡ u → settleRoot u h t (unusedOf ns) ≡ indexAt (st .root) ns h → RootSettled st W W h v root
   stays-settled e same =
       let is : indexAt (st .root) ns h ≡ settleRoot v h t (unusedOf ns) = sym same ∙ ap (λ (r : ChangeResult). settleRoot r h t (unusedOf ns)) (sym e) in
       record {

@@ -1,2 +1,2 @@
--- `Batch` says what a batch asks of a pool, and what it leaves.
-pub mod Batch
+-- `Contracts` has what a batch asks of a pool, and what it leaves.
+pub mod Contracts

@@ -4,8 +4,8 @@
 // afterwards and the counts are those of the model's `batch`.
 ghost use Rattle.words.specs.Words.{words};
 ghost use Rattle.model.specs.Refuse.{call};
-ghost use Rattle.batch_root.specs.Roots.{ToSettleRoot, SettledRoot};
-ghost use Rattle.batch.specs.Batch.{ToBatch, Changed};
+ghost use Rattle.batch_root.specs.Contracts.{ToSettleRoot, RootSettled};
+ghost use Rattle.batch.specs.Contracts.{ToBatch, Changed};
 use batch_leaf::Run;
 use batch_leaf::Subtree;
 use batch_node::node_change;
@@ -78,7 +78,7 @@ pub fn batch(
 // minimum stays, since it has no sibling.
 fn settle_root(pool: &mut [u8], st: Settings, root: Root, v: ChangeResult) -> Root
     requires { ⌜ ToSettleRoot st (words (now pool)) root v ⌝ }
-    ensures { λ r. ⌜ SettledRoot st (words (now (pool .entry))) (words (now (pool .exit))) (root .height) v r ⌝ }
+    ensures { λ r. ⌜ RootSettled st (words (now (pool .entry))) (words (now (pool .exit))) (root .height) v r ⌝ }
 {
     match v {
         ChangeResult::Split => {

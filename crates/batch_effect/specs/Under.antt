@@ -3,16 +3,15 @@ use Prim.Native.Nat.{ℕ, _+_, _≤_}
 use mathlib.Core.Option.{Option, none, some}
 use Rattle.model.specs.declared.Counts.{Counts}
 use Rattle.model.specs.declared.Reference.{Reference}
+use Rattle.model.specs.Plain.{referenceFor}
 use Rattle.batch_effect.specs.declared.Presence.{Presence}
 use Rattle.batch_effect.specs.declared.Presence.the-variants as P
 
-abbrev pub refOf : ℕ → ℕ → Reference
-refOf p z = record { place = p; size = z }
-
+-- what stands under a key, as the model has it
 abbrev pub optionOf : Presence → Option Reference
 optionOf P.Absent = none
-optionOf (P.Held p z) = some (refOf p z)
+optionOf (P.Held p z) = some (referenceFor p z)
 
--- n keys at most are counted
-pub record Few (c : Counts) (n : ℕ) : Type 0 where
+-- c counts n keys at most
+pub record AtMost (c : Counts) (n : ℕ) : Type 0 where
   pub few : c .added + c .replaced + c .removed + c .nothing ≤ n

@@ -1,8 +1,8 @@
 // What a wish does under a key, by what stands there; and what that adds to the counts.
 ghost use mathlib.Core.Path.{_≡_};
 ghost use mathlib.Core.Bool.{_||_};
-ghost use Rattle.model.specs.Plain.{act, met, effect, same, count, alters};
-ghost use Rattle.batch_effect.specs.Under.{optionOf, refOf, Few};
+ghost use Rattle.model.specs.Plain.{act, met, effect, same, count, alters, referenceFor};
+ghost use Rattle.batch_effect.specs.Under.{optionOf, AtMost};
 use model::Action;
 use model::Counts;
 use model::Effect;
@@ -65,7 +65,7 @@ fn meets(e: Expectation, p: Presence) -> bool
 }
 
 fn same_reference(a: Reference, place: u64, size: u64) -> bool
-    ensures { λ r. ⌜ r ≡ same a (refOf place size) ⌝ }
+    ensures { λ r. ⌜ r ≡ same a (referenceFor place size) ⌝ }
 {
     a.place == place && wide(a.size) == size
 }
@@ -91,7 +91,7 @@ pub fn altered(was: bool, e: Effect) -> bool
 
 // The counts with one effect more.
 pub fn counted(c: Counts, e: Effect) -> Counts
-    requires { ⌜ Few c 4294967296 ⌝ }
+    requires { ⌜ AtMost c 4294967296 ⌝ }
     ensures { λ r. ⌜ r ≡ count e c ⌝ }
 {
     let mut n = c;

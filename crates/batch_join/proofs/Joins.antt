@@ -13,9 +13,9 @@ use Rattle.model.specs.Share.{Row, half, cutAt, join, followed, stay}
 use Rattle.model.specs.Sound.{Stocked}
 use Rattle.model.proofs.Lists.{all-head}
 use Rattle.tree.specs.Bridge.{unusedOf}
-use Rattle.batch_share.specs.Settle.{kidsAt, childAt, beforeAt, afterAt, Ended}
+use Rattle.batch_share.specs.Children.{kidsAt, childAt, beforeAt, afterAt}
+use Rattle.batch_share.specs.Contracts.{Ended, Poise, Beside, Came, Left}
 use Rattle.batch_share.specs.declared.Standing.{Standing}
-use Rattle.batch_share.specs.Steps.{Poise, Beside, Came, Left}
 use Rattle.tree_spare.specs.declared.Spare.{Spare}
 use Rattle.tree_spare.specs.Spared.{Spared}
 use Rattle.tree_spare.proofs.Spares.{spared-same}

@@ -7,7 +7,7 @@ use lib.ListN.{length, set, length-map, length-set}
 use lib.Seq.{getD-set-other}
 use Rattle.slots_raw.specs.declared.Row as R
 use Rattle.slots.specs.Nodes.{nodes, nth, rowsAt, unused, putRows, without, put2, withRows, joinNodes}
-use Rattle.slots.specs.Contracts.{ToGive, Rows, Now}
+use Rattle.slots.specs.Contracts.{ToGive, ToTouchRows, NodesPut}
 use Rattle.slots.specs.Nodes as S
 use Rattle.tree_spare.specs.declared.Spare.{Spare}
 use Rattle.tree_spare.specs.Spared.{Spared, freeing}
@@ -25,10 +25,9 @@ use Rattle.model.proofs.Trees.{back-joined}
 use Rattle.tree.specs.Bridge.{rowFor, nodeFor, unusedOf}
 use Rattle.tree.proofs.Cells.{kind-used}
 use Rattle.tree.proofs.Unused.{unused-released, unused-kept}
-use Rattle.batch_share.specs.Settle.{kidsAt, Settled}
+use Rattle.batch_share.specs.Children.{kidsAt, renewed}
+use Rattle.batch_share.specs.Contracts.{Settled, ToRenew, Bounded, Beside, Came, Left}
 use Rattle.tree_node.specs.Ask.{rowOver}
-use Rattle.batch_share.specs.Renew.{ToRenew, renewed}
-use Rattle.batch_share.specs.Steps.{Bounded, Beside, Came, Left}
 use Rattle.tree_node.proofs.Weights.{row-over}
 use Rattle.batch_share.proofs.Weights.{sums-fit, bounded-left, bounded-right}
 use Rattle.batch_share.proofs.Zips.{set-turned, without-turned, map-turned}
@@ -83,7 +82,7 @@ module _ {st : Settings} {W : List ℕ} {h s i : ℕ} {b : List (Tree h)} {p c :
       (subst (Bounded h) (sym (append-assoc (p .items) (c .items) (joined a)))
       (bounded-right h (back b) (p .items ++ (c .items ++ joined a)) (subst (Bounded h) (back-joined b (p ∷ c ∷ a)) (t .family .bounded))))
 
-  module _ (W₁ : List ℕ) (w : Now st W W₁ (joinNodes ns x y)) where
+  module _ (W₁ : List ℕ) (w : NodesPut st W W₁ (joinNodes ns x y)) where
     nodes-merged : nodes st W₁ ≡ mergedNodes
     nodes-merged = w .is ∙ (λ j. joinNodes ns (ex j) (ey j)) ∙ merge-cut
 
@@ -93,10 +92,10 @@ module _ {st : Settings} {W : List ℕ} {h s i : ℕ} {b : List (Tree h)} {p c :
     parent-rows : rowsAt st W₁ s ≡ rowsAt st W s
     parent-rows = rows-in s (nth ns s) at-parent
 
-    pub upper-out : Rows st W₁ s (i + 1) 1
+    pub upper-out : ToTouchRows st W₁ s (i + 1) 1
     upper-out = record { held = w .held; slot = parent-in (t .family); within = omega (arith, beside-long t, ap length parent-rows) }
 
-    module _ (W₂ : List ℕ) (v : Now st W₁ W₂ (putRows (nodes st W₁) s (without (rowsAt st W₁ s) (i + 1) 1))) where
+    module _ (W₂ : List ℕ) (v : NodesPut st W₁ W₂ (putRows (nodes st W₁) s (without (rowsAt st W₁ s) (i + 1) 1))) where
       abbrev less : List R.Row
       less = without (rowsAt st W₁ s) (i + 1) 1
 
@@ -153,7 +152,7 @@ module _ {st : Settings} {W : List ℕ} {h s i : ℕ} {b : List (Tree h)} {p c :
           (omega (arith, parent-in (t .family), length-nodes st W, length-put ns (p .slot) (nodeFor h (both h p c)) (c .slot) unused))
           newRows rows-new
 
-      pub merged-left : (spare : Spare) → Spared ns spare → (r : Spare) → r ≡ freeing spare y → (W₃ : List ℕ) → Now st W₂ W₃ (renewed (nodes st W₂) h s i x)
+      pub merged-left : (spare : Spare) → Spared ns spare → (r : Spare) → r ≡ freeing spare y → (W₃ : List ℕ) → NodesPut st W₂ W₃ (renewed (nodes st W₂) h s i x)
           → Left st W W₃ h s r (kidsAt ns h s) mergedPlace
       merged-left spare l r er W₃ u =
           let q = renewed-after st W₁ W₂ h s i x less (parent-in (t .family)) (λ e. apart-lower t (sym ex ∙ e)) v W₃ u in

@@ -8,7 +8,7 @@ use lib.Seq.{getD-set-other}
 use Rattle.model.specs.declared.ChangeResult.the-variants.{Remove}
 use Rattle.slots_raw.specs.declared.Row as R
 use Rattle.slots.specs.Nodes.{nodes, nth, rowsAt, unused, putRows, without}
-use Rattle.slots.specs.Contracts.{Rows, Now}
+use Rattle.slots.specs.Contracts.{ToTouchRows, NodesPut}
 use Rattle.slots.specs.Nodes as S
 use Rattle.tree_spare.specs.declared.Spare.{Spare}
 use Rattle.tree_spare.specs.Spared.{Spared, freeing}
@@ -21,9 +21,9 @@ use Rattle.model.specs.Share.{Place}
 use Rattle.model.proofs.Lists.{hit-same}
 use Rattle.tree.specs.Bridge.{rowFor, unusedOf}
 use Rattle.tree.proofs.Unused.{unused-released}
-use Rattle.batch_share.specs.Settle.{kidsAt, Settled, Ended}
+use Rattle.batch_share.specs.Children.{kidsAt}
+use Rattle.batch_share.specs.Contracts.{Settled, Ended, Focus, Came}
 use Rattle.batch_share.specs.declared.Standing.{Standing}
-use Rattle.batch_share.specs.Steps.{Focus, Came}
 use Rattle.batch_share.proofs.Zips.{without-turned, map-turned}
 use Rattle.batch_share.proofs.Places.{parent-in, came-kids}
 use Rattle.batch_share.proofs.Recast.{recast-settles}
@@ -31,7 +31,7 @@ use Rattle.batch_share.proofs.Puts.{blank-set}
 use Rattle.batch_share.proofs.Focuses.{focus-away, focus-used, focus-in, focus-long, focus-rows, focus-place}
 
 module _ {st : Settings} {W : List ℕ} {h s i : ℕ} {b : List (Tree h)} {c : Tree h} {a : List (Tree h)} (t : Focus st W h s i b c a)
-    (none-left : c .items ≡ []) (y : ℕ) (ey : y ≡ c .slot) (W₁ : List ℕ) (w : Now st W W₁ (set (nodes st W) y unused)) where
+    (none-left : c .items ≡ []) (y : ℕ) (ey : y ≡ c .slot) (W₁ : List ℕ) (w : NodesPut st W W₁ (set (nodes st W) y unused)) where
   abbrev ns : List S.Node
   ns = nodes st W
 
@@ -49,10 +49,10 @@ module _ {st : Settings} {W : List ℕ} {h s i : ℕ} {b : List (Tree h)} {c : T
       ap (λ (ms : List S.Node). nth ms s .rows) nodes-out
       ∙ ap (λ (n : S.Node). n .rows) (getD-set-other ns (c .slot) s unused unused (λ e. focus-away t (sym e)))
 
-  pub child-out : Rows st W₁ s i 1
+  pub child-out : ToTouchRows st W₁ s i 1
   child-out = record { held = w .held; slot = parent-in (t .family); within = omega (arith, focus-long t, ap length parent-rows) }
 
-  module _ (W₂ : List ℕ) (v : Now st W₁ W₂ (putRows (nodes st W₁) s (without (rowsAt st W₁ s) i 1))) where
+  module _ (W₂ : List ℕ) (v : NodesPut st W₁ W₂ (putRows (nodes st W₁) s (without (rowsAt st W₁ s) i 1))) where
     abbrev less : List R.Row
     less = without (rowsAt st W₁ s) i 1
 

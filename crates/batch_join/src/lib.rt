@@ -4,15 +4,15 @@ ghost use mathlib.Core.List.{_∷_, _++_};
 ghost use Prim.Native.Nat.{_+_, _-_, _≤_};
 ghost use Rattle.words.specs.Words.{words};
 ghost use Rattle.slots.specs.Nodes.{nodes};
-ghost use Rattle.slots.specs.Contracts.{Now};
+ghost use Rattle.slots.specs.Contracts.{NodesPut};
 ghost use Rattle.model.specs.Tree.{len, refill, release};
 ghost use Rattle.model.specs.Share.{half, cutAt, join, followed};
 ghost use Rattle.model.specs.declared.ChangeResult.the-variants.{Absorb, Remove};
 ghost use Rattle.model.specs.Contracts.{Says};
 ghost use Rattle.tree.specs.Bridge.{unusedOf};
 ghost use Rattle.tree_spare.specs.Spared.{Spared};
-ghost use Rattle.batch_share.specs.Settle.{Done, childAt, afterAt};
-ghost use Rattle.batch_share.specs.Steps.{ToStep, Neighbours, Parted, Rowed, ToLevel, levelNodes};
+ghost use Rattle.batch_share.specs.Contracts.{ChildSettled, ToStep, Neighbours, Parted, Rowed, ToLevel};
+ghost use Rattle.batch_share.specs.Children.{childAt, afterAt, levelNodes};
 use batch_share::Standing;
 use batch_share::renew::child_len;
 use batch_share::renew::renew;
@@ -35,7 +35,7 @@ pub fn absorb(
 ) -> Standing
     requires steps { ⌜ ToStep st (words (now pool)) below s i spare 0 ⌝ }
     requires says { ⌜ Says st Absorb (childAt (nodes st (words (now pool))) below s i) ⌝ }
-    ensures { λ r. ⌜ Done st (words (now (pool .entry))) (words (now (pool .exit))) below s i Absorb r ⌝ }
+    ensures { λ r. ⌜ ChildSettled st (words (now (pool .entry))) (words (now (pool .exit))) below s i Absorb r ⌝ }
 {
     if slots::count(pool, st, s) == 1 {
         return Standing { at: i, spare };
@@ -112,7 +112,7 @@ fn even_out(pool: &mut [u8], st: Settings, below: usize, s: usize, i: usize)
 // Rows go from the longer of the nodes `p` and `c` to the other, until the lower half of them is in `p`.
 fn level(pool: &mut [u8], st: Settings, p: usize, c: usize)
     requires { ⌜ ToLevel st (words (now pool)) p c ⌝ }
-    ensures { λ _. let W = words (now (pool .entry)) in ⌜ Now st W (words (now (pool .exit))) (levelNodes (nodes st W) p c) ⌝ }
+    ensures { λ _. let W = words (now (pool .entry)) in ⌜ NodesPut st W (words (now (pool .exit))) (levelNodes (nodes st W) p c) ⌝ }
 {
     let m = slots::count(pool, st, p);
     let n = slots::count(pool, st, c);
@@ -135,7 +135,7 @@ pub fn take_out(
 ) -> Standing
     requires steps { ⌜ ToStep st (words (now pool)) below s i spare 0 ⌝ }
     requires says { ⌜ Says st Remove (childAt (nodes st (words (now pool))) below s i) ⌝ }
-    ensures { λ r. ⌜ Done st (words (now (pool .entry))) (words (now (pool .exit))) below s i Remove r ⌝ }
+    ensures { λ r. ⌜ ChildSettled st (words (now (pool .entry))) (words (now (pool .exit))) below s i Remove r ⌝ }
 {
     let c = child_at(pool, st, s, i);
     slots::release(pool, st, c);

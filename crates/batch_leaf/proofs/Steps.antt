@@ -15,8 +15,9 @@ use Rattle.slots_find.specs.declared.Found.{Found}
 use Rattle.slots_find.specs.declared.Found.the-variants as F
 use Rattle.slots_raw.specs.Slots.{blank}
 use Rattle.slots.specs.Nodes.{nodes, putRows, rowsAt}
-use Rattle.slots.specs.Contracts.{Now}
-use Rattle.slots_find.specs.Search.{keyAt, Ascending, pick, findRow, Sought, Within}
+use Rattle.slots.specs.Contracts.{NodesPut}
+use Rattle.slots_find.specs.Search.{keyAt, Ascending, pick, findRow}
+use Rattle.slots_find.specs.Contracts.{Sought, Within}
 use Rattle.slots_find.specs.Search as S
 use Rattle.slots_raw.proofs.Over.{map-append}
 use Rattle.slots.proofs.Nodes.{become}
@@ -29,7 +30,7 @@ use Rattle.model.specs.declared.Wish.{Wish}
 use Rattle.model.specs.declared.Wish.the-variants.{Always, IfMet}
 use Rattle.model.specs.declared.Effect.{Effect}
 use Rattle.model.specs.declared.Effect.the-variants.{Leave, Add, Replace, Remove}
-use Rattle.model.specs.Plain.{Task, step, effect, act, met, held, above, below, from, under, alters, entryFor}
+use Rattle.model.specs.Plain.{Task, step, effect, act, met, held, above, below, from, under, alters, entryFor, referenceFor}
 use Rattle.model.specs.Sound.{Sorted}
 use Rattle.model.proofs.Lists.{by-test}
 use Rattle.model.proofs.Plain.{step-idle}
@@ -38,9 +39,9 @@ use Rattle.tree.specs.Bridge.{entryOf, entryRow}
 use Rattle.tree.proofs.SoundHolds.{rows-again}
 use Rattle.tree.proofs.Keys.{rows-ascend, entries-from}
 use Rattle.batch_effect.specs.declared.Presence.{Presence}
-use Rattle.batch_effect.specs.Under.{refOf, optionOf}
-use Rattle.batch_leaf.specs.Leaf.{Leaf}
-use Rattle.batch_leaf.specs.Keys.{presenceAt, placeOf, performed, ToPerform, KeyDone}
+use Rattle.batch_effect.specs.Under.{optionOf}
+use Rattle.batch_leaf.specs.Contracts.{ToTakeKey, ToPerform, KeyDone}
+use Rattle.batch_leaf.specs.Keys.{presenceAt, placeOf, performed}
 
 -- ROWS AND ENTRIES
 
@@ -139,7 +140,7 @@ present : (w : Wish) (r : Reference) → adds (effect w (some r)) ≡ false
 present (Always a) r = act-present a r
 present (IfMet e a) r = by-test (λ (x : Effect). adds x ≡ false) (met e (some r)) (λ _. act-present a r) (λ _. refl)
 
-module _ (st : Settings) (W : List ℕ) (s k : ℕ) (w : Wish) (leaf : Leaf st W s) where
+module _ (st : Settings) (W : List ℕ) (s k : ℕ) (w : Wish) (leaf : ToTakeKey st W s) where
   able : (r : Found) (d : Effect) → View k (rowsAt st W s) r → placeOf r ≤ length (rowsAt st W s)
       → d ≡ effect w (optionOf (presenceAt (rowsAt st W s) r)) → ToPerform st W s (placeOf r) d
   able r Leave v b e = record { held = leaf .held; slot = leaf .slot }
@@ -174,7 +175,7 @@ module _ (k : ℕ) (w : Wish) (l : List Row) where
   performed-step r Leave v e = sym (rows-again l) ∙ ap rows (sym (step-idle task (entries l) (ap alters (sym e))))
   performed-step (F.At i) (Add n) (stands p h q) e =
       absurd (true≢false (ap adds e ∙ ap (λ (o : Option Reference). adds (effect w o)) (sym (presence-held k l (F.At i) (stands p h q)))
-      ∙ present w (refOf (getD l i blank .body) (getD l i blank .size))))
+      ∙ present w (referenceFor (getD l i blank .body) (getD l i blank .size))))
   performed-step (F.Before i) (Add n) (lacks p h g) e =
       append-assoc (take i l) (entryRow (entryFor k n) ∷ []) (drop i l)
       ∙ joined i i (entryFor k n ∷ []) p (g ∙ entries-from k l ∙ ap (λ (j : ℕ). entries (drop j l)) (sym p))
@@ -194,7 +195,7 @@ module _ (k : ℕ) (w : Wish) (l : List Row) where
 
 -- ONE KEY: what is decided by what was found can be done there, and done it is the task
 
-module _ {st : Settings} {W : List ℕ} {s k : ℕ} (w : Wish) (leaf : Leaf st W s) {r : Found} {p : Presence} (d : Effect) {i : ℕ} (sought : Sought (rowsAt st W s) k r) (ep : p ≡ presenceAt (rowsAt st W s) r) (ed : d ≡ effect w (optionOf p)) (ei : i ≡ placeOf r) where
+module _ {st : Settings} {W : List ℕ} {s k : ℕ} (w : Wish) (leaf : ToTakeKey st W s) {r : Found} {p : Presence} (d : Effect) {i : ℕ} (sought : Sought (rowsAt st W s) k r) (ep : p ≡ presenceAt (rowsAt st W s) r) (ed : d ≡ effect w (optionOf p)) (ei : i ≡ placeOf r) where
   abbrev l : List Row
   l = rowsAt st W s
 
@@ -205,7 +206,7 @@ module _ {st : Settings} {W : List ℕ} {s k : ℕ} (w : Wish) (leaf : Leaf st W
   key-able =
       subst (λ (j : ℕ). ToPerform st W s j d) (sym ei) (able st W s k w leaf r d (view k l r sought) (place-within l r (sought .within)) decided)
 
-  pub key-done : {W′ : List ℕ} → Now st W W′ (putRows (nodes st W) s (performed l i k d)) → KeyDone st W W′ s (record { key = k; wish = w }) d
+  pub key-done : {W′ : List ℕ} → NodesPut st W W′ (putRows (nodes st W) s (performed l i k d)) → KeyDone st W W′ s (record { key = k; wish = w }) d
   key-done {W′} n =
       let v = view k l r sought in
       let e = decided ∙ ap (effect w) (presence-held k l r v) in

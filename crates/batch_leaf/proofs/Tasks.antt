@@ -18,7 +18,8 @@ use Rattle.model.specs.Plain.{Task, each, pairs, references, step, effectOn, al
 use Rattle.model.specs.Refuse.{Call, call, tasksOf}
 use Rattle.model.specs.Change.{Run, Walked, takeTasks, counted}
 use Rattle.model.proofs.Lists.{by-test}
-use Rattle.batch_leaf.specs.Leaf.{Lent, taskAt}
+use Rattle.batch_leaf.specs.Contracts.{ToWish}
+use Rattle.batch_leaf.specs.Keys.{taskAt}
 
 -- THE NEXT TASK
 
@@ -35,31 +36,31 @@ pairs-next (a ∷ ps) [] (k ∷ ks) n h p z = absurd (not-suc-le-zero z)
 pairs-next (a ∷ ps) (b ∷ zs) (k ∷ ks) zero h p z = refl
 pairs-next (a ∷ ps) (b ∷ zs) (k ∷ ks) (suc n) h p z = pairs-next ps zs ks n (le-of-suc-le-suc h) (le-of-suc-le-suc p) (le-of-suc-le-suc z)
 
-next-of : (op : Operation) (ps zs ks : List ℕ) (n : ℕ) → n < length ks → Lent op ps zs (length ks)
+next-of : (op : Operation) (ps zs ks : List ℕ) (n : ℕ) → n < length ks → ToWish op ps zs (length ks)
     → drop n (tasksOf (call op ps zs ks)) ≡ taskAt (call op ps zs ks) n ∷ drop (suc n) (tasksOf (call op ps zs ks))
 next-of (Op.Set r) ps zs ks n h l = each-next (Always (Do.Set r)) ks n h
 next-of Op.SetEach ps zs ks n h l = pairs-next ps zs ks n h (l .0) (l .1)
 next-of Op.Remove ps zs ks n h l = each-next (Always Do.Remove) ks n h
 next-of (Op.Compare e a) ps zs ks n h l = each-next (IfMet e a) ks n h
 
-pub task-next : (b : Call) (n : ℕ) → n < length (b .keys) → Lent (b .operation) (b .places) (b .sizes) (length (b .keys))
+pub task-next : (b : Call) (n : ℕ) → n < length (b .keys) → ToWish (b .operation) (b .places) (b .sizes) (length (b .keys))
     → drop n (tasksOf b) ≡ taskAt b n ∷ drop (suc n) (tasksOf b)
 task-next b n h l = next-of (b .operation) (b .places) (b .sizes) (b .keys) n h l
 
 -- the reference of that task is lent
-lent-less : (op : Operation) (ps zs : List ℕ) (n m : ℕ) → m ≤ n → Lent op ps zs n → Lent op ps zs m
+lent-less : (op : Operation) (ps zs : List ℕ) (n m : ℕ) → m ≤ n → ToWish op ps zs n → ToWish op ps zs m
 lent-less (Op.Set r) ps zs n m h l = tt
 lent-less Op.SetEach ps zs n m h l = (omega (arith, l .0), omega (arith, l .1))
 lent-less Op.Remove ps zs n m h l = tt
 lent-less (Op.Compare e a) ps zs n m h l = tt
 
-pub lent-next : (b : Call) (n : ℕ) → n < length (b .keys) → Lent (b .operation) (b .places) (b .sizes) (length (b .keys))
-    → Lent (b .operation) (b .places) (b .sizes) (n + 1)
+pub lent-next : (b : Call) (n : ℕ) → n < length (b .keys) → ToWish (b .operation) (b .places) (b .sizes) (length (b .keys))
+    → ToWish (b .operation) (b .places) (b .sizes) (n + 1)
 lent-next b n h l = lent-less (b .operation) (b .places) (b .sizes) (length (b .keys)) (n + 1) (omega arith) l
 
 -- a SetEach has both lists
-pub lent-each : {op : Operation} (ps zs : List ℕ) (n : ℕ) → op ≡ Op.SetEach → Lent op ps zs n → (n ≤ length ps) × (n ≤ length zs)
-lent-each ps zs n e l = subst (λ (o : Operation). Lent o ps zs n) e l
+pub lent-each : {op : Operation} (ps zs : List ℕ) (n : ℕ) → op ≡ Op.SetEach → ToWish op ps zs n → (n ≤ length ps) × (n ≤ length zs)
+lent-each ps zs n e l = subst (λ (o : Operation). ToWish o ps zs n) e l
 
 -- NO TASK IS LEFT behind the last key
 

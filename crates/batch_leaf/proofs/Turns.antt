@@ -9,7 +9,7 @@ use lib.Dec.{ltb, leb}
 use lib.ListN.{length, getD, drop, length-map}
 use borrow.Author.Tests.{ltb-true, ltb-false, leb-true}
 use Rattle.slots.specs.Nodes.{Node, nodes, putRows, rowsAt}
-use Rattle.slots.specs.Contracts.{Now}
+use Rattle.slots.specs.Contracts.{NodesPut}
 use Rattle.slots.proofs.Nodes.{length-nodes, become, put-same, put-put}
 use Rattle.slots.proofs.Pairs.{own-rows}
 use Rattle.model.specs.declared.Settings.{Settings}
@@ -27,16 +27,16 @@ use Rattle.model.proofs.Plain.{step-sorted}
 use Rattle.tree.specs.Bridge.{entryOf, entryRow}
 use Rattle.tree.proofs.ReadOff.{entries-back}
 use Rattle.tree.proofs.SoundHolds.{rows-again}
-use Rattle.batch_effect.specs.Under.{Few}
+use Rattle.batch_effect.specs.Under.{AtMost}
 use Rattle.batch_leaf.specs.declared.Run.{Run}
 use Rattle.batch_leaf.specs.declared.Subtree.{Subtree}
-use Rattle.batch_leaf.specs.Leaf.{Leaf, Lent, wishAt, Batch, Took, taking}
-use Rattle.batch_leaf.specs.Keys.{KeyDone, goesOn}
+use Rattle.batch_leaf.specs.Contracts.{ToTakeKey, ToWish, Underway, KeysTaken, KeyDone}
+use Rattle.batch_leaf.specs.Keys.{wishAt, taking, goesOn}
 use Rattle.batch_leaf.proofs.Tasks.{task-next, task-none, lent-next}
 
 -- THE LOOP
 
-few-on : (e : Effect) (c : Counts) (n : ℕ) → Few c n → Few (count e c) (n + 1)
+few-on : (e : Effect) (c : Counts) (n : ℕ) → AtMost c n → AtMost (count e c) (n + 1)
 few-on Leave c n h = record { few = omega (arith, h .few) }
 few-on (Add r) c n h = record { few = omega (arith, h .few) }
 few-on (Replace r) c n h = record { few = omega (arith, h .few) }
@@ -50,16 +50,16 @@ takes st W leaf ts changed c us =
 -- the rows of the leaf have changed, the keys from `run .next` to `now .next` are taken, and the model, going on from here, ends as it does from the
 -- start
 pub record Turn (st : Settings) (W₀ W : List ℕ) (leaf : Subtree) (b : Call) (run : Run) (changed : Bool) (now : Run) : Type 0 where
-  pub did : Now st W₀ W (putRows (nodes st W₀) (leaf .slot) (rowsAt st W (leaf .slot)))
+  pub did : NodesPut st W₀ W (putRows (nodes st W₀) (leaf .slot) (rowsAt st W (leaf .slot)))
   pub slot : leaf .slot < st .nodes
   pub sorted : Sorted (map entryOf (rowsAt st W (leaf .slot)))
   pub forth : run .next ≤ now .next
-  pub batch : Batch b now
+  pub batch : Underway b now
   pub spare : now .spare ≡ run .spare
   pub same : (us : List ℕ)
       → takes st W leaf (drop (now .next) (tasksOf b)) changed (now .counts) us ≡ takes st W₀ leaf (drop (run .next) (tasksOf b)) false (run .counts) us
 
-pub turn-start : {st : Settings} {W : List ℕ} {leaf : Subtree} {b : Call} {run : Run} → Leaf st W (leaf .slot) → Batch b run
+pub turn-start : {st : Settings} {W : List ℕ} {leaf : Subtree} {b : Call} {run : Run} → ToTakeKey st W (leaf .slot) → Underway b run
     → Turn st W W leaf b run false run
 turn-start {st} {W} {leaf} l b =
     record {
@@ -103,7 +103,7 @@ module _ {st : Settings} {W₀ W : List ℕ} {leaf : Subtree} {b : Call} {run : 
     turn-low : (leb (getD (b .keys) next 0) ceiling && leb n (st .order)) ≡ true
     turn-low = both-right (ltb next (length (b .keys))) (leb (getD (b .keys) next 0) ceiling && leb n (st .order)) q
 
-    pub turn-leaf : Leaf st W s
+    pub turn-leaf : ToTakeKey st W s
     turn-leaf = record {
       held = t .did .held;
       slot = t .slot;
@@ -111,7 +111,7 @@ module _ {st : Settings} {W₀ W : List ℕ} {leaf : Subtree} {b : Call} {run : 
       few = leb-true _ _ (both-right (leb (getD (b .keys) next 0) ceiling) (leb n (st .order)) turn-low);
     }
 
-    pub turn-lent : Lent (b .operation) (b .places) (b .sizes) (next + 1)
+    pub turn-lent : ToWish (b .operation) (b .places) (b .sizes) (next + 1)
     turn-lent = lent-next b next turn-within (t .batch .lent)
 
     module _ (w : Wish) (asked : w ≡ wishAt (b .operation) (b .places) (b .sizes) next) where
@@ -147,7 +147,7 @@ module _ {st : Settings} {W₀ W : List ℕ} {leaf : Subtree} {b : Call} {run : 
               lent = t .batch .lent;
               short = t .batch .short;
               within = omega arith;
-              few = subst (λ (x : Counts). Few x (next + 1)) (sym e2) (few-on d c next (t .batch .few));
+              few = subst (λ (x : Counts). AtMost x (next + 1)) (sym e2) (few-on d c next (t .batch .few));
             };
             spare = t .spare;
             same = λ us. rw (e1, e2, k .effect, here, add-one next) (sym (one-off us) ∙ t .same us);
@@ -165,7 +165,7 @@ module _ {st : Settings} {W₀ W : List ℕ} {leaf : Subtree} {b : Call} {run : 
         rw (task-next b next (ltb-true _ _ e) (t .batch .lent), length-map (rowsAt st W s) entryOf, r) refl
     stops-by us false e = rw (task-none b next (ltb-false _ _ e)) refl
 
-    pub turn-done : Leaf st W₀ s → (us : List ℕ) → Took st W₀ W leaf b run us (record { run = now; changed = changed })
+    pub turn-done : ToTakeKey st W₀ s → (us : List ℕ) → KeysTaken st W₀ W leaf b run us (record { run = now; changed = changed })
     turn-done l us =
         let limit : st .order ≡ max (length (rowsAt st W₀ s)) (st .order) = omega (arith, l .few) in
         let all : stopped us ≡ taking st W₀ leaf b run us =

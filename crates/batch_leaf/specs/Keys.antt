@@ -1,23 +1,43 @@
--- One key in a leaf, and whether the leaf takes the next: what the functions below `take_keys` ask and promise. Assumes nothing.
-use Prim.Native.Nat.{ℕ}
-use mathlib.Core.Path.{_≡_}
-use mathlib.Core.Bool.{Bool, _&&_}
-use mathlib.Core.List.{List, [], _∷_, map}
-use lib.ListN.{length, getD, set}
+-- The keys of a batch in a leaf: what is wished of each, what is found and done under it, and what the model's leaf takes of them. Assumes nothing.
+use Prim.Native.Nat.{ℕ, max}
+use mathlib.Core.Bool.{false, Bool, _&&_}
+use mathlib.Core.List.{List, map, [], _∷_}
+use lib.ListN.{length, drop, getD, set}
 use lib.Dec.{ltb, leb}
+use Rattle.slots.specs.Nodes.{rowsAt, putIn, without}
+use Rattle.model.specs.declared.Settings.{Settings}
+use Rattle.model.specs.declared.Entry.{Entry}
+use Rattle.model.specs.declared.Operation.{Operation}
+use Rattle.model.specs.declared.Operation.the-variants as Op
+use Rattle.model.specs.declared.Action.the-variants as Do
+use Rattle.model.specs.declared.Wish.{Wish}
+use Rattle.model.specs.declared.Wish.the-variants.{Always, IfMet}
+use Rattle.model.specs.Plain.{Task, entryFor}
+use Rattle.model.specs.Refuse.{Call, tasksOf}
+use Rattle.model.specs.Change.{Walked, takeTasks}
+use Rattle.tree.specs.Bridge.{entryOf, entryRow}
 use Rattle.slots_raw.specs.declared.Row.{Row}
 use Rattle.slots_find.specs.declared.Found.{Found}
 use Rattle.slots_find.specs.declared.Found.the-variants as F
 use Rattle.slots_raw.specs.Slots.{blank}
-use Rattle.slots.specs.Nodes.{nodes, rowsAt, putRows, putIn, without}
-use Rattle.slots.specs.Contracts.{Now, At, Rows, Room}
-use Rattle.model.specs.declared.Settings.{Settings}
 use Rattle.model.specs.declared.Effect.{Effect}
 use Rattle.model.specs.declared.Effect.the-variants.{Leave, Add, Replace, Remove}
-use Rattle.model.specs.Plain.{Task, step, effectOn, entryFor}
-use Rattle.tree.specs.Bridge.{entryOf, entryRow}
 use Rattle.batch_effect.specs.declared.Presence.{Presence}
 use Rattle.batch_effect.specs.declared.Presence.the-variants as P
+use Rattle.batch_leaf.specs.declared.Run.{Run}
+use Rattle.batch_leaf.specs.declared.Subtree.{Subtree}
+
+-- WHAT IS WISHED
+
+-- what an operation wishes of key i, and the task of that key
+abbrev pub wishAt : Operation → List ℕ → List ℕ → ℕ → Wish
+wishAt (Op.Set r) ps zs i = Always (Do.Set r)
+wishAt Op.SetEach ps zs i = Always (Do.Set (record { place = getD ps i 0; size = getD zs i 0 }))
+wishAt Op.Remove ps zs i = Always Do.Remove
+wishAt (Op.Compare e a) ps zs i = IfMet e a
+
+abbrev pub taskAt : Call → ℕ → Task
+taskAt b i = record { key = getD (b .keys) i 0; wish = wishAt (b .operation) (b .places) (b .sizes) i }
 
 -- WHAT WAS FOUND
 
@@ -26,6 +46,7 @@ abbrev pub presenceAt : List Row → Found → Presence
 presenceAt l (F.At i) = P.Held (getD l i blank .body) (getD l i blank .size)
 presenceAt l (F.Before i) = P.Absent
 
+-- the row where a key was found, or before which it would stand
 abbrev pub placeOf : Found → ℕ
 placeOf (F.At i) = i
 placeOf (F.Before i) = i
@@ -39,20 +60,15 @@ performed l i k (Add r) = putIn l i (entryRow (entryFor k r) ∷ [])
 performed l i k (Replace r) = set l i (entryRow (entryFor k r))
 performed l i k Remove = without l i 1
 
--- node s lets it be done
-abbrev pub ToPerform : Settings → List ℕ → ℕ → ℕ → Effect → Type 0
-ToPerform st W s i Leave = At st W s
-ToPerform st W s i (Add r) = Room st W s i 1
-ToPerform st W s i (Replace r) = Rows st W s i 1
-ToPerform st W s i Remove = Rows st W s i 1
-
--- the leaf's entries are what the task makes of them, and e is its effect
-pub record KeyDone (st : Settings) (W W′ : List ℕ) (s : ℕ) (t : Task) (e : Effect) : Type 0 where
-  pub did : Now st W W′ (putRows (nodes st W) s (map entryRow (step t (map entryOf (rowsAt st W s)))))
-  pub effect : e ≡ effectOn t (map entryOf (rowsAt st W s))
-
 -- WHAT IS TAKEN
 
 -- the next key is taken: there is one, it does not exceed the ceiling, and the n entries do not exceed the limit
 abbrev pub goesOn : List ℕ → ℕ → ℕ → ℕ → ℕ → Bool
 goesOn ks next ceiling n limit = ltb next (length ks) && (leb (getD ks next 0) ceiling && leb n limit)
+
+-- what the model's leaf takes of the tasks from the next one on, with any unused slots
+abbrev pub taking : Settings → List ℕ → Subtree → Call → Run → List ℕ → Walked Entry
+taking st W leaf b run us =
+    let rows = rowsAt st W (leaf .slot) in
+    takeTasks (max (length rows) (st .order)) (leaf .ceiling) (drop (run .next) (tasksOf b)) (map entryOf rows) false
+    (record { unused = us; counts = run .counts })

@@ -1,3 +1,3 @@
--- `Leaf` says what `take_keys` asks and promises, and `Keys` what the functions below it do, a key at a time.
-pub mod Leaf
+-- `Keys` says what is done under a key and what a leaf takes, `Contracts` has what the functions ask and promise.
 pub mod Keys
+pub mod Contracts

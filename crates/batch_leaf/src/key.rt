@@ -2,10 +2,10 @@
 ghost use mathlib.Core.Path.{_≡_};
 ghost use Rattle.words.specs.Words.{words};
 ghost use Rattle.slots.specs.Nodes.{nodes, rowsAt, putRows};
-ghost use Rattle.slots.specs.Contracts.{Now, At};
-ghost use Rattle.slots_find.specs.Search.{Sought};
-ghost use Rattle.batch_leaf.specs.Leaf.{Leaf};
-ghost use Rattle.batch_leaf.specs.Keys.{presenceAt, placeOf, performed, ToPerform, KeyDone};
+ghost use Rattle.slots.specs.Contracts.{NodesPut, ToTouch};
+ghost use Rattle.slots_find.specs.Contracts.{Sought};
+ghost use Rattle.batch_leaf.specs.Contracts.{ToTakeKey, ToPerform, KeyDone};
+ghost use Rattle.batch_leaf.specs.Keys.{presenceAt, placeOf, performed};
 use batch_effect::Presence;
 use batch_effect::decide;
 use model::Effect;
@@ -17,7 +17,7 @@ use tree_rows::entry_row;
 
 // Does to leaf `s` what is asked of one key. Its answer is what was done.
 pub fn change_key(pool: &mut [u8], st: Settings, s: usize, key: u64, wish: Wish) -> Effect
-    requires { ⌜ Leaf st (words (now pool)) s ⌝ }
+    requires { ⌜ ToTakeKey st (words (now pool)) s ⌝ }
     ensures { λ r. ⌜ KeyDone st (words (now (pool .entry))) (words (now (pool .exit))) s (record { key = key; wish = wish }) r ⌝ }
 {
     let found = slots_find::search(pool, st, s, key);
@@ -30,7 +30,7 @@ pub fn change_key(pool: &mut [u8], st: Settings, s: usize, key: u64, wish: Wish)
 
 // What stands where `key` was found.
 fn presence_at(pool: &[u8], st: Settings, s: usize, key: u64, found: Found) -> Presence
-    requires { ⌜ At st (words (now pool)) s × Sought (rowsAt st (words (now pool)) s) key found ⌝ }
+    requires { ⌜ ToTouch st (words (now pool)) s × Sought (rowsAt st (words (now pool)) s) key found ⌝ }
     ensures { λ r. ⌜ r ≡ presenceAt (rowsAt st (words (now (pool .entry))) s) found ⌝ }
 {
     match found {
@@ -56,7 +56,7 @@ fn place_of(found: Found) -> usize
 fn perform(pool: &mut [u8], st: Settings, s: usize, i: usize, key: u64, e: Effect)
     requires { ⌜ ToPerform st (words (now pool)) s i e ⌝ }
     ensures { λ _. let W = words (now (pool .entry)) in
-        ⌜ Now st W (words (now (pool .exit))) (putRows (nodes st W) s (performed (rowsAt st W s) i key e)) ⌝ }
+        ⌜ NodesPut st W (words (now (pool .exit))) (putRows (nodes st W) s (performed (rowsAt st W s) i key e)) ⌝ }
 {
     match e {
         Effect::Leave => {}

@@ -8,10 +8,10 @@ ghost use Prim.Native.Nat.{ℕ, _+_};
 ghost use lib.ListN.{length};
 ghost use Rattle.words.specs.Words.{words};
 ghost use Rattle.slots.specs.Nodes.{rowsAt};
-ghost use Rattle.slots.specs.Contracts.{At};
+ghost use Rattle.slots.specs.Contracts.{ToTouch};
 ghost use Rattle.model.specs.Refuse.{call};
-ghost use Rattle.batch_leaf.specs.Leaf.{Leaf, Lent, Batch, Took, wishAt};
-ghost use Rattle.batch_leaf.specs.Keys.{goesOn};
+ghost use Rattle.batch_leaf.specs.Contracts.{ToTakeKey, ToWish, Underway, KeysTaken};
+ghost use Rattle.batch_leaf.specs.Keys.{wishAt, goesOn};
 
 mod key; // one key in a leaf
 
@@ -58,9 +58,9 @@ pub fn take_keys(
     op: Operation,
     run: Run,
 ) -> Progress
-    requires { ⌜ Leaf st (words (now pool)) (leaf .slot) × Batch (call op (now places) (now sizes) (now keys)) run ⌝ }
+    requires { ⌜ ToTakeKey st (words (now pool)) (leaf .slot) × Underway (call op (now places) (now sizes) (now keys)) run ⌝ }
     ensures { λ r. let b = call op (now (places .entry)) (now (sizes .entry)) (now (keys .entry)) in
-        ⌜ ((us : List ℕ) → Took st (words (now (pool .entry))) (words (now (pool .exit))) leaf b run us r) ⌝ }
+        ⌜ ((us : List ℕ) → KeysTaken st (words (now (pool .entry))) (words (now (pool .exit))) leaf b run us r) ⌝ }
 {
     let mut now = run;
     let mut changed = false;
@@ -78,7 +78,7 @@ pub fn take_keys(
 
 // Whether leaf `s` takes key `next`.
 fn takes(pool: &[u8], st: Settings, s: usize, keys: &[u64], next: usize, ceiling: u64) -> bool
-    requires { ⌜ At st (words (now pool)) s ⌝ }
+    requires { ⌜ ToTouch st (words (now pool)) s ⌝ }
     ensures { λ r. ⌜ r ≡ goesOn (now (keys .entry)) next ceiling (length (rowsAt st (words (now (pool .entry))) s)) (st .order) ⌝ }
 {
     if next < keys.len() {
@@ -93,7 +93,7 @@ fn takes(pool: &[u8], st: Settings, s: usize, keys: &[u64], next: usize, ceiling
 
 // What the operation wishes of key `i`: a SetEach has a reference for each key.
 fn wish_at(op: Operation, places: &[u64], sizes: &[u32], i: usize) -> Wish
-    requires { ⌜ Lent op (now places) (now sizes) (i + 1) ⌝ }
+    requires { ⌜ ToWish op (now places) (now sizes) (i + 1) ⌝ }
     ensures { λ r. ⌜ r ≡ wishAt op (now (places .entry)) (now (sizes .entry)) i ⌝ }
 {
     match op {

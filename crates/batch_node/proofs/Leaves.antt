@@ -25,7 +25,8 @@ use Rattle.model.proofs.Trees.{flat-zero}
 use Rattle.batch_leaf.specs.declared.Run.{Run}
 use Rattle.batch_leaf.specs.declared.Subtree.{Subtree}
 use Rattle.batch_leaf.specs.declared.Progress.{Progress}
-use Rattle.batch_leaf.specs.Leaf.{Leaf, Took, taking}
+use Rattle.batch_leaf.specs.Contracts.{ToTakeKey, KeysTaken}
+use Rattle.batch_leaf.specs.Keys.{taking}
 use Rattle.batch_leaf.proofs.Tasks.{taken-unused}
 use Rattle.tree.specs.Bridge.{entryOf, entryRow, nodeFor, cellsOf, Stands, treeAt, unusedOf, Blank}
 use Rattle.tree.proofs.Unused.{used-in}
@@ -33,7 +34,7 @@ use Rattle.batch_share.proofs.Parents.{unused-rows}
 use Rattle.model.specs.declared.ChangeResult.{ChangeResult}
 use Rattle.tree_spare.specs.Spared.{Spared}
 use Rattle.tree_spare.proofs.Spares.{spared-same}
-use Rattle.batch_node.specs.Calls.{runOf, ToChange, NodeChanged}
+use Rattle.batch_node.specs.Contracts.{runOf, ToChange, NodeChanged}
 
 -- a slot in use is one of the pool's
 pub slot-in : (st : Settings) (W : List ℕ) (s : ℕ) → nth (nodes st W) s .kind ≢ 0 → s < st .nodes
@@ -76,7 +77,7 @@ module _ {st : Settings} {W : List ℕ} {leaf : Subtree} {b : Call} {run : Run} 
   used : nth ns s .kind ≢ 0
   used e = absurd (omega (arith, is-leaf, e))
 
-  pub leaf-asked : Leaf st W s
+  pub leaf-asked : ToTakeKey st W s
   leaf-asked =
       record {
         held = asks .held;
@@ -101,7 +102,7 @@ module _ {st : Settings} {W : List ℕ} {leaf : Subtree} {b : Call} {run : Run} 
       ap (λ (m : ℕ). takeTasks (max m (st .order)) (leaf .ceiling) (drop (run .next) ts) (map entryOf (rowsAt st W s)) false carried)
       (sym (length-map (rowsAt st W s) entryOf))
 
-  module _ {W′ : List ℕ} {r : Progress} (took : Took st W W′ leaf b run us r) {n : ℕ} (en : n ≡ length (rowsAt st W′ s)) (v : ChangeResult)
+  module _ {W′ : List ℕ} {r : Progress} (took : KeysTaken st W W′ leaf b run us r) {n : ℕ} (en : n ≡ length (rowsAt st W′ s)) (v : ChangeResult)
       (ev : v ≡ resultOf st (r .changed) n) where
     inside : s < length ns
     inside = omega (arith, length-nodes st W, slot-in st W s used)

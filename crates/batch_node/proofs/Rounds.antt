@@ -11,7 +11,7 @@ use borrow.Author.Tests.{lt-ltb, ltb-true, leb-true}
 use Rattle.slots_raw.specs.declared.Row.{Row}
 use Rattle.slots_raw.specs.Slots.{blank, headIn}
 use Rattle.slots.specs.Nodes.{Held, nodes, rowsAt}
-use Rattle.slots.specs.Contracts.{At}
+use Rattle.slots.specs.Contracts.{ToTouch}
 use Rattle.slots.specs.Nodes as S
 use Rattle.model.specs.declared.Settings.{Settings}
 use Rattle.model.specs.declared.Counts.{Counts}
@@ -27,18 +27,19 @@ use Rattle.model.proofs.Lists.{both-left, both-right, all-head}
 use Rattle.model.proofs.Trees.{flat-three, flat-joined, back-joined}
 use Rattle.batch_leaf.specs.declared.Run.{Run}
 use Rattle.batch_leaf.specs.declared.Subtree.{Subtree}
-use Rattle.batch_leaf.specs.Leaf.{Batch, taskAt}
+use Rattle.batch_leaf.specs.Contracts.{Underway}
+use Rattle.batch_leaf.specs.Keys.{taskAt}
 use Rattle.batch_leaf.proofs.Tasks.{task-next, task-none}
 use Rattle.tree.specs.Bridge.{childOf, rowFor, Holds, treeAt, unusedOf}
 use Rattle.tree.proofs.ReadOff.{Light, Lights, child-slot, held-tree, kids-read}
-use Rattle.model.specs.declared.ChangeResult.{ChangeResult}
 use Rattle.tree_spare.specs.Spared.{Spared}
 use Rattle.batch_share.specs.declared.Standing.{Standing}
-use Rattle.batch_share.specs.Settle.{kidsAt, childAt, beforeAt, afterAt, Loose, Pend, ToSettle, Settled, Ended, Done}
+use Rattle.batch_share.specs.Children.{kidsAt, childAt, beforeAt, afterAt}
+use Rattle.batch_share.specs.Contracts.{Loose, Pend, ToSettle, Settled, Ended, ChildSettled}
 use Rattle.batch_share.proofs.Zips.{drop-turned, getD-turned, map-turned}
 use Rattle.batch_share.proofs.Places.{before-is, child-is, after-is}
 use Rattle.batch_node.specs.declared.Reply.{Reply}
-use Rattle.batch_node.specs.Calls.{runOf, Asked, ToChange, Answers, NodeChanged}
+use Rattle.batch_node.specs.Contracts.{runOf, Asked, ToChange, Answers, NodeChanged}
 use Rattle.tree_node.specs.Ask.{childFor, Chosen}
 use Rattle.tree_node.proofs.Seeks.{seek-child}
 use Rattle.batch_seek.specs.Seek.{roams}
@@ -55,7 +56,7 @@ cross {A} {B} P {a′ = a′} {b = b} {b′ = b′} {d = d} ea eb ed p = subst (
 pub record Roaming (st : Settings) (W₀ W : List ℕ) (h : ℕ) (node : Subtree) (b : Call) (run₀ : Run) (i : ℕ) (changed : Bool) (run : Run) : Type 0 where
   pub held : Held st W
   pub header : headIn W ≡ headIn W₀
-  pub batch : Batch b run
+  pub batch : Underway b run
   pub spared : Spared (nodes st W) (run .spare)
   pub before : List (Tree h)
   pub rest : List (Tree h)
@@ -113,7 +114,7 @@ module _ {st : Settings} {W₀ W : List ℕ} {h : ℕ} {node : Subtree} {b : Cal
       ap (λ (n : S.Node). length (n .rows)) (all-head (m .walking .stroll .holds)) ∙ length-map (reverseAux (m .before) (m .rest)) (rowFor (suc h))
       ∙ length-reverseAux (m .before) (m .rest)
 
-  pub round-at : At st W (node .slot)
+  pub round-at : ToTouch st W (node .slot)
   round-at =
       record {
         held = m .held;
@@ -370,7 +371,7 @@ module _ {st : Settings} {W₀ W : List ℕ} {h : ℕ} {node : Subtree} {b : Cal
               })
 
           -- AND WHAT IT LEAVES
-          module _ {W₂ : List ℕ} {to : Standing} (done : Done st W₁ W₂ h (node .slot) j (y .result) to) where
+          module _ {W₂ : List ℕ} {to : Standing} (done : ChildSettled st W₁ W₂ h (node .slot) j (y .result) to) where
             ended : Ended st W₁ W₂ h (node .slot) (y .result) to (reverseAux (z .before) (o .node ∷ z .after)) (z .before) (o .node) (z .after)
             ended =
                 cross (Ended st W₁ W₂ h (node .slot) (y .result) to (reverseAux (z .before) (o .node ∷ z .after))) (before-is ns₁ h (node .slot) (z .before) (o .node) (z .after) j kids-now found-at)

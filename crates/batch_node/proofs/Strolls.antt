@@ -20,8 +20,9 @@ use Rattle.model.proofs.Trees.{back-joined, slotsIn, own, own-turned, slots-joi
 use Rattle.tree.specs.Bridge.{cells, cellsOf, Stands, Holds, unusedOf, Blank, Apart, Frame}
 use Rattle.tree.proofs.Cells.{used-tree, agree-items, turned-cells, cells-rest, cells-before, slots-turned}
 use Rattle.tree.proofs.Unused.{used-none, unused-once}
-use Rattle.batch_share.specs.Settle.{inner, Loose, Settled}
-use Rattle.batch_node.specs.Calls.{Answers}
+use Rattle.batch_share.specs.Children.{inner}
+use Rattle.batch_share.specs.Contracts.{Loose, Settled}
+use Rattle.batch_node.specs.Contracts.{Answers}
 
 -- THE SLOTS of a child and its siblings, and of their parent s
 pub parts : (x h s : ℕ) (before : List (Tree h)) (c : Tree h) (after : List (Tree h))

@@ -26,8 +26,9 @@ use Rattle.model.proofs.Trees.{flat-three, flat-joined}
 use Rattle.model.proofs.Settles.{itemsOf, settles}
 use Rattle.model.proofs.Changes.{seek-turned, child-enough, Owes, Ranged, Passed, Sought, Turned, did-left, stocked-ready, ceiling-due, one-left, outcome, chosen-law, chosen-given, owing, turning, first-ranged, none-passed, change-law}
 use Rattle.tree.specs.Bridge.{Holds, unusedOf, Apart}
-use Rattle.batch_share.specs.Settle.{inner, Loose, Settled}
-use Rattle.batch_node.specs.Calls.{runOf, Asked, Answers}
+use Rattle.batch_share.specs.Children.{inner}
+use Rattle.batch_share.specs.Contracts.{Loose, Settled}
+use Rattle.batch_node.specs.Contracts.{runOf, Asked, Answers}
 use Rattle.batch_node.proofs.Strolls.{Among, Strolling, apart-kept, child-holds, child-apart, loosened, strolled-on}
 
 -- THE LOOP INVARIANT of interior change: the model's walk from here is the model's walk from the start, and the nodes hold the place

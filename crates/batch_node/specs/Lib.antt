@@ -1,2 +1,2 @@
--- `Calls` says what changing a node asks and answers.
-pub mod Calls
+-- `Contracts` has what changing a node asks and answers.
+pub mod Contracts

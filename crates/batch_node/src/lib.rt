@@ -5,7 +5,7 @@
 ghost use Prim.Native.Nat.{suc, _-_, _<_};
 ghost use Rattle.words.specs.Words.{words};
 ghost use Rattle.model.specs.Refuse.{call};
-ghost use Rattle.batch_node.specs.Calls.{ToChange, NodeChanged};
+ghost use Rattle.batch_node.specs.Contracts.{ToChange, NodeChanged};
 use batch_leaf::Run;
 use batch_leaf::Subtree;
 use batch_seek::ceiling_for;

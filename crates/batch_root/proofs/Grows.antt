@@ -6,9 +6,9 @@ use Prim.Native.Nat.{ℕ, _≤_, _<_}
 use native.Mathlib.Omega.{arith}
 use lib.ListN.{length}
 use Rattle.slots.specs.Nodes.{nodes, nth, rowsAt, splitNodes}
-use Rattle.slots.specs.Contracts.{At, Now, ToSplit}
+use Rattle.slots.specs.Contracts.{ToTouch, NodesPut, ToSplit}
 use Rattle.slots.specs.Nodes as S
-use Rattle.slots_find.specs.Search.{Lowest}
+use Rattle.slots_find.specs.Contracts.{Lowest}
 use Rattle.slots.proofs.Nodes.{length-nodes}
 use Rattle.model.specs.declared.Settings.{Settings}
 use Rattle.model.specs.Tree.{Tree, len, others}
@@ -23,7 +23,8 @@ use Rattle.tree_spare.specs.declared.Spare.{Spare}
 use Rattle.tree_spare.specs.Spared.{Spared, ToTake}
 use Rattle.tree_spare.proofs.Spares.{spared-in, spared-taken}
 use Rattle.batch_share.proofs.Places.{node-used}
-use Rattle.batch_root.specs.Roots.{indexAt, Becomes, ToSplitRoot, ToMove, moved, ToCrown, crowned}
+use Rattle.batch_root.specs.Roots.{indexAt, moved, crowned}
+use Rattle.batch_root.specs.Contracts.{Becomes, ToSplitRoot, ToMove, ToCrown}
 use Rattle.batch_root.proofs.Indexes.{keeps-root, now-holds}
 use Rattle.batch_root.proofs.Splits as P
 
@@ -61,7 +62,7 @@ module _ {st : Settings} {W₀ : List ℕ} {h : ℕ} {spare : Spare} (pre : ToSp
         used = node-used ns h (st .root) t (ap (nth ns) (sym (slot-read ns h (st .root))) ∙ all-head (pre .keeps .holds .tree));
       }
 
-  module _ {W₁ : List ℕ} (mv : Now st W₀ W₁ (moved (st .root) (nodes st W₀) a)) where
+  module _ {W₁ : List ℕ} (mv : NodesPut st W₀ W₁ (moved (st .root) (nodes st W₀) a)) where
     top : P.Top (st .root) ns h t a
     top =
         record {
@@ -80,7 +81,7 @@ module _ {st : Settings} {W₀ : List ℕ} {h : ℕ} {spare : Spare} (pre : ToSp
     pub lower-taken : ToTake st W₁ spare
     lower-taken = spared-taken st W₀ (pre .spared) W₁ (mv .held) some moved-unused
 
-    pub lower-at : At st W₁ a
+    pub lower-at : ToTouch st W₁ a
     lower-at = record { held = mv .held; slot = a-nodes }
 
     module _ {rest : Spare} (lo : Spared (nodes st W₁) rest) where
@@ -118,7 +119,7 @@ module _ {st : Settings} {W₀ : List ℕ} {h : ℕ} {spare : Spare} (pre : ToSp
             within = omega (arith, keeps .rows, keeps .within, long);
           }
 
-      module _ {keep k : ℕ} (keeps : Keeps h t keep k) {W₂ : List ℕ} (sp : Now st W₁ W₂ (splitNodes (nodes st W₁) a b keep)) where
+      module _ {keep k : ℕ} (keeps : Keeps h t keep k) {W₂ : List ℕ} (sp : NodesPut st W₁ W₂ (splitNodes (nodes st W₁) a b keep)) where
         split-is : nodes st W₂ ≡ splitNodes (moved (st .root) ns a) a b k
         split-is = sp .is ∙ (λ j. splitNodes (mv .is j) a b (keeps .rows j))
 
@@ -134,7 +135,7 @@ module _ {st : Settings} {W₀ : List ℕ} {h : ℕ} {spare : Spare} (pre : ToSp
               bare = ap (λ (z : List S.Node). nth z (st .root) .rows) split-is ∙ P.split-bare top second b-in k;
             }
 
-        module _ {W₃ : List ℕ} (cr : Now st W₂ W₃ (crowned (st .root) (nodes st W₂) h a b)) where
+        module _ {W₃ : List ℕ} (cr : NodesPut st W₂ W₃ (crowned (st .root) (nodes st W₂) h a b)) where
           crown-is : nodes st W₃ ≡ P.above top second b-in k
           crown-is = cr .is ∙ ap (λ (z : List S.Node). crowned (st .root) z h a b) split-is ∙ P.crowned-is top second b-in k
 

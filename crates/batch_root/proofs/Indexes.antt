@@ -5,7 +5,7 @@ use Prim.Native.Nat.{ℕ, _<_}
 use lib.ListN.{length}
 use native.Mathlib.Omega.{arith}
 use Rattle.slots.specs.Nodes.{nodes, nth}
-use Rattle.slots.specs.Contracts.{Now}
+use Rattle.slots.specs.Contracts.{NodesPut}
 use Rattle.slots.proofs.Nodes.{length-nodes}
 use Rattle.model.proofs.Lists.{all-head}
 use Rattle.tree.proofs.Unused.{used-in}
@@ -16,7 +16,8 @@ use Rattle.model.specs.declared.Settings.{Settings}
 use Rattle.model.specs.Tree.{Tree, Index, slotsOf, entriesOf}
 use Rattle.tree.specs.Bridge.{treeAt, unusedOf, Holds, HoldsIndex, Frame}
 use Rattle.tree.proofs.ReadOff.{Light, held-tree}
-use Rattle.batch_root.specs.Roots.{indexAt, ToCollapse, Becomes}
+use Rattle.batch_root.specs.Roots.{indexAt}
+use Rattle.batch_root.specs.Contracts.{Holding, Becomes}
 
 -- a tree with its root in slot r
 pub root-read : (r : ℕ) (ns : List S.Node) (h : ℕ) (t : Tree h) → t .slot ≡ r → Light h t → Holds ns h t → treeAt ns h r ≡ t
@@ -30,7 +31,7 @@ index-read r ns h x eh e light k =
     ∙ ap (λ (l : List ℕ). record { height = x .height; root = x .root; unused = l }) (k .unused)
 
 -- the root of an index that a pool holds is in one of its slots
-pub keeps-root : {st : Settings} {W : List ℕ} {h : ℕ} → ToCollapse st W (indexAt (st .root) (nodes st W) h) → st .root < st .nodes
+pub keeps-root : {st : Settings} {W : List ℕ} {h : ℕ} → Holding st W (indexAt (st .root) (nodes st W) h) → st .root < st .nodes
 keeps-root {st} {W} {h} k =
     let ns : List S.Node = nodes st W in
     let t : Tree h = treeAt (nodes st W) h (st .root) in
@@ -40,7 +41,7 @@ keeps-root {st} {W} {h} k =
       length-nodes st W,
     )
 
-pub now-holds : (st : Settings) (W W′ : List ℕ) (ms : List S.Node) (x y : Index) → Now st W W′ ms → HoldsIndex ms y
+pub now-holds : (st : Settings) (W W′ : List ℕ) (ms : List S.Node) (x y : Index) → NodesPut st W W′ ms → HoldsIndex ms y
     → Frame (nodes st W) ms (slotsOf x) → Becomes st W W′ x y
 now-holds st W W′ ms x y w k f =
     record {

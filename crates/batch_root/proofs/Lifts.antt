@@ -21,7 +21,7 @@ use Rattle.model.proofs.Trees.{slotsIn}
 use Rattle.tree.specs.Bridge.{treeAt, childOf, kindFor, nodeFor, cells, cellsOf, Stands, Holds, unusedOf, Blank, HoldsIndex, Apart, Frame}
 use Rattle.tree.proofs.Cells.{agree-items, kind-used}
 use Rattle.tree.proofs.Unused.{used-in, unused-released}
-use Rattle.batch_share.specs.Settle.{childAt}
+use Rattle.batch_share.specs.Children.{childAt}
 use Rattle.batch_share.proofs.Places.{node-used}
 use Rattle.batch_share.proofs.Puts.{put-first, put-other, blank-set}
 use Rattle.batch_root.specs.Roots.{indexAt, lifted, collapsed}

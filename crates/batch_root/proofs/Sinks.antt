@@ -7,7 +7,7 @@ use native.Mathlib.Omega.{arith}
 use lib.ListN.{length, getD}
 use Rattle.slots_raw.specs.Slots.{blank, headIn}
 use Rattle.slots.specs.Nodes.{nodes, nth, rowsAt, unused, putRows, putKind, put2, without, joinNodes}
-use Rattle.slots.specs.Contracts.{Now, ToGive}
+use Rattle.slots.specs.Contracts.{NodesPut, ToGive}
 use Rattle.slots.specs.Nodes as S
 use Rattle.slots.proofs.Nodes.{length-nodes, fits-node, then, become}
 use Rattle.slots.proofs.Pairs.{kept-same, own-rows}
@@ -19,13 +19,13 @@ use Rattle.tree.specs.Bridge.{childOf, kindFor, unusedOf, HoldsIndex}
 use Rattle.tree_spare.specs.declared.Spare.{Spare}
 use Rattle.tree_spare.specs.Spared.{Spared, freeing}
 use Rattle.tree_spare.proofs.Spares.{spared-freed}
-use Rattle.batch_share.specs.Settle.{childAt}
+use Rattle.batch_share.specs.Children.{childAt}
 use Rattle.batch_share.proofs.Places.{slot-of}
-use Rattle.batch_root.specs.Roots.{indexAt, ToCollapse, Becomes, RootSettled, ToLift, Lifted, lifted, collapsed}
+use Rattle.batch_root.specs.Roots.{indexAt, lifted, collapsed}
+use Rattle.batch_root.specs.Contracts.{Holding, Becomes, RootLeft, ToLift, Lifted}
 use Rattle.batch_root.proofs.Indexes.{index-read, keeps-root, now-holds}
 use Rattle.batch_root.proofs.Outside.{Outside, outside-start, outside-then}
-use Rattle.batch_root.proofs.Lifts.{none-left, raised, Single, child-root, child-in, raise, raise-holds, raise-frame}
-use Rattle.batch_root.proofs.Lifts.{lifted-list, lifted-slots, lifted-apart, lifted-same, ends-leaf, ends-wide}
+use Rattle.batch_root.proofs.Lifts.{none-left, raised, Single, child-root, child-in, raise, raise-holds, raise-frame, lifted-list, lifted-slots, lifted-apart, lifted-same, ends-leaf, ends-wide}
 
 single : {st : Settings} {W : List ℕ} {h : ℕ} {spare : Spare} → ToLift st W h spare → Single (st .root) (nodes st W) h
 single p = record { holds = p .keeps .holds .tree; apart = p .keeps .apart; one = p .one }
@@ -45,8 +45,8 @@ module _ {st : Settings} {W₀ : List ℕ} {h : ℕ} {spare : Spare} (pre : ToLi
   root-in : st .root < st .nodes
   root-in = keeps-root (pre .keeps)
 
-  module _ {W₁ W₂ : List ℕ} {k : ℕ} (ek : k ≡ kindFor h) (out : Now st W₀ W₁ (putRows (nodes st W₀) (st .root) (without (rowsAt st W₀ (st .root)) 0 1)))
-      (kinded : Now st W₁ W₂ (putKind (nodes st W₁) (st .root) k)) where
+  module _ {W₁ W₂ : List ℕ} {k : ℕ} (ek : k ≡ kindFor h) (out : NodesPut st W₀ W₁ (putRows (nodes st W₀) (st .root) (without (rowsAt st W₀ (st .root)) 0 1)))
+      (kinded : NodesPut st W₁ W₂ (putKind (nodes st W₁) (st .root) k)) where
     pub to-join : ToGive st W₂ child (st .root) (length (rowsAt st W₂ child))
     to-join =
         let bare : length (rowsAt st W₂ (st .root)) ≡ 0 =
@@ -61,7 +61,7 @@ module _ {st : Settings} {W₀ : List ℕ} {h : ℕ} {spare : Spare} (pre : ToLi
           room = omega (arith, bare, fits-node st W₂ child (kinded .held));
         }
 
-    becomes-lifted : {W₃ : List ℕ} → Now st W₂ W₃ (joinNodes (nodes st W₂) (st .root) child)
+    becomes-lifted : {W₃ : List ℕ} → NodesPut st W₂ W₃ (joinNodes (nodes st W₂) (st .root) child)
         → Becomes st W₀ W₃ (indexAt (st .root) ns (suc h)) (lifted (st .root) ns h)
     becomes-lifted {W₃} joined =
         let f : List S.Node → List S.Node = λ ms. putKind ms (st .root) k in
@@ -74,7 +74,7 @@ module _ {st : Settings} {W₀ : List ℕ} {h : ℕ} {spare : Spare} (pre : ToLi
         ∙ ap (λ (j : ℕ). put2 ns (st .root) (record { kind = kindFor h; rows = nth ns j .rows }) j unused) (sym slot-is)))
         (raise-holds (single pre) (pre .keeps .holds .blank)) (raise-frame (single pre))
 
-    pub child-lifted : {W₃ : List ℕ} {r : Spare} → Now st W₂ W₃ (joinNodes (nodes st W₂) (st .root) child) → r ≡ freeing spare child → Lifted st W₀ W₃ h r
+    pub child-lifted : {W₃ : List ℕ} {r : Spare} → NodesPut st W₂ W₃ (joinNodes (nodes st W₂) (st .root) child) → r ≡ freeing spare child → Lifted st W₀ W₃ h r
     child-lifted {W₃} joined e =
         let b = becomes-lifted joined in
         record {
@@ -87,13 +87,13 @@ module _ {st : Settings} {W₀ : List ℕ} {h : ℕ} {spare : Spare} (pre : ToLi
 -- THE LOOP
 
 pub record Sinking (st : Settings) (W₀ W : List ℕ) (h₀ h : ℕ) (spare : Spare) : Type 0 where
-  pub keeps : ToCollapse st W (indexAt (st .root) (nodes st W) h)
+  pub keeps : Holding st W (indexAt (st .root) (nodes st W) h)
   pub header : headIn W ≡ headIn W₀
   pub spared : Spared (nodes st W) spare
   pub outside : Outside (nodes st W₀) (nodes st W) (indexAt (st .root) (nodes st W₀) h₀) (indexAt (st .root) (nodes st W) h)
   pub same : collapsed (indexAt (st .root) (nodes st W) h) ≡ collapsed (indexAt (st .root) (nodes st W₀) h₀)
 
-pub sink-start : {st : Settings} {W : List ℕ} {h : ℕ} {spare : Spare} → ToCollapse st W (indexAt (st .root) (nodes st W) h) → Spared (nodes st W) spare
+pub sink-start : {st : Settings} {W : List ℕ} {h : ℕ} {spare : Spare} → Holding st W (indexAt (st .root) (nodes st W) h) → Spared (nodes st W) spare
     → Sinking st W W h h spare
 sink-start k x = record { keeps = k; header = refl; spared = x; outside = outside-start _ _; same = refl }
 
@@ -103,7 +103,7 @@ module _ {st : Settings} {W₀ W : List ℕ} {h₀ h : ℕ} {spare : Spare} (m :
 
   -- a root with one child, of height g, gives way to it
   pub lone : {g : ℕ} → h ≡ suc g → length (rowsAt st W (st .root)) ≡ 1 → ToLift st W g spare
-  lone e q = record { keeps = subst (λ (n : ℕ). ToCollapse st W (indexAt (st .root) (nodes st W) n)) e (m .keeps); spared = m .spared; one = q }
+  lone e q = record { keeps = subst (λ (n : ℕ). Holding st W (indexAt (st .root) (nodes st W) n)) e (m .keeps); spared = m .spared; one = q }
 
   pub sink-on : {g : ℕ} {W′ : List ℕ} {r : Spare} → h ≡ suc g → length (rowsAt st W (st .root)) ≡ 1 → Lifted st W W′ g r → Sinking st W₀ W′ h₀ g r
   sink-on {g} {W′} e q done =
@@ -114,10 +114,10 @@ module _ {st : Settings} {W₀ W : List ℕ} {h₀ h : ℕ} {spare : Spare} (m :
       subst (λ (n : ℕ). Outside (nodes st W₀) (nodes st W) x₀ (indexAt (st .root) (nodes st W) n)) e (m .outside) in
       let small : length (entriesOf (lifted (st .root) (nodes st W) g)) < 1048576 = omega (arith, ap length list, p .keeps .small) in
       let is : indexAt (st .root) (nodes st W′) g ≡ lifted (st .root) (nodes st W) g = index-read (st .root) (nodes st W′) g (lifted (st .root) (nodes st W) g) refl refl small (b .holds) in
-      let now : ToCollapse st W′ (lifted (st .root) (nodes st W) g) =
+      let now : Holding st W′ (lifted (st .root) (nodes st W) g) =
       record { held = b .held; holds = b .holds; apart = lifted-apart (single p); small = small; fit = subst (All Fits) (sym list) (p .keeps .fit) } in
       record {
-        keeps = subst (ToCollapse st W′) (sym is) now;
+        keeps = subst (Holding st W′) (sym is) now;
         header = b .header ∙ m .header;
         spared = done .spared;
         outside = outside-then from (nodes st W′) (b .frame) (indexAt (st .root) (nodes st W′) g)
@@ -127,7 +127,7 @@ module _ {st : Settings} {W₀ W : List ℕ} {h₀ h : ℕ} {spare : Spare} (m :
 
   -- what the loop leaves if it ends here
   abbrev Sunk : Type 0
-  Sunk = RootSettled st W₀ W x₀ (collapsed x₀) (record { height = h; spare = spare })
+  Sunk = RootLeft st W₀ W x₀ (collapsed x₀) (record { height = h; spare = spare })
 
   sunk : collapsed (indexAt (st .root) (nodes st W) h) ≡ indexAt (st .root) (nodes st W) h → Sunk
   sunk e =

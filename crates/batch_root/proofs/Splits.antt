@@ -10,7 +10,7 @@ use lib.Seq.{getD-set-other}
 use Rattle.slots_raw.specs.declared.Row.{Row}
 use Rattle.slots.specs.Nodes.{unusedKind, interiorKind, nth, unused, withRows, splitNodes}
 use Rattle.slots.specs.Nodes as S
-use Rattle.slots_find.specs.Search.{Lowest}
+use Rattle.slots_find.specs.Contracts.{Lowest}
 use Rattle.slots.proofs.Nodes.{nth-same}
 use Rattle.slots_raw.proofs.Over.{map-take, map-drop}
 use Rattle.model.specs.Lists.{times, All, none, one}
@@ -23,7 +23,7 @@ use Rattle.tree.proofs.Cells.{cells-append, agree-items, agree-tree, used-items
 use Rattle.tree.proofs.Unused.{used-in, unused-taken}
 use Rattle.tree.specs.Sums.{Sums}
 use Rattle.tree_node.specs.Ask.{rowOver}
-use Rattle.batch_share.specs.Steps.{Bounded}
+use Rattle.batch_share.specs.Contracts.{Bounded}
 use Rattle.tree_node.proofs.Weights.{row-over}
 use Rattle.batch_share.proofs.Weights.{sums-fit, bounded-left, bounded-right}
 use Rattle.batch_share.proofs.Places.{node-used, node-len}

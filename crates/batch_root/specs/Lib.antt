@@ -1,2 +1,3 @@
--- `Roots` says what each function on the root asks and answers.
+-- `Roots` has the index at the root of a pool and what becomes of it, `Contracts` what each function on the root asks and promises.
 pub mod Roots
+pub mod Contracts

@@ -1,119 +1,33 @@
--- What the functions on the root ask of the pool, and what they leave: the index that the model says. Assumes nothing.
-use Prim.Native.Nat.{ℕ, suc, _≤_, _<_}
-use mathlib.Core.Path.{_≡_}
-use mathlib.Core.Logic.{_≢_}
+-- The index at the root of a pool, and what the functions on the root make of it. Assumes nothing.
+use Prim.Native.Nat.{ℕ}
 use mathlib.Core.List.{List, [], _∷_}
-use lib.ListN.{length, set}
-use Rattle.slots_raw.specs.Slots.{headIn}
-use Rattle.slots.specs.Nodes.{unusedKind, interiorKind, Held, nodes, nth, rowsAt, put2, withRows}
+use lib.ListN.{set}
+use Rattle.slots.specs.Nodes.{interiorKind, nth, put2, withRows}
 use Rattle.slots.specs.Nodes as S
-use Rattle.model.specs.declared.Settings.{Settings}
-use Rattle.model.specs.Lists.{All}
-use Rattle.model.specs.Tree.{Index, slotsOf, entriesOf, release}
-use Rattle.model.specs.declared.ChangeResult.the-variants.{Split, Remove}
-use Rattle.model.specs.Change.{splitRoot, settleRoot, collapse}
-use Rattle.model.specs.Sound.{Fits}
-use Rattle.tree.specs.Bridge.{treeAt, unusedOf, Blank, HoldsIndex, Apart, Frame}
-use Rattle.model.specs.declared.ChangeResult.{ChangeResult}
-use Rattle.batch_share.specs.Settle.{childAt}
-use Rattle.tree.specs.Sums.{Sums}
+use Rattle.model.specs.Tree.{Index, release}
+use Rattle.model.specs.Change.{collapse}
+use Rattle.tree.specs.Bridge.{treeAt, unusedOf}
+use Rattle.batch_share.specs.Children.{childAt}
 use Rattle.tree_node.specs.Ask.{rowOver}
-use Rattle.tree_spare.specs.declared.Spare.{Spare}
-use Rattle.tree_spare.specs.Spared.{Spared}
-use Rattle.batch_root.specs.declared.Root.{Root}
-
--- THE POOL BEFORE AND AFTER
 
 -- the index of height h that the nodes hold, with its root in some slot
 abbrev pub indexAt : ℕ → List S.Node → ℕ → Index
 indexAt root ns h = record { height = h; root = treeAt ns h root; unused = unusedOf ns }
 
--- it holds x, no slot of it twice, and totals fit their places in a row
-pub record ToCollapse (st : Settings) (W : List ℕ) (x : Index) : Type 0 where
-  pub held : Held st W
-  pub holds : HoldsIndex (nodes st W) x
-  pub apart : Apart (x .height) (x .root)
-  pub small : length (entriesOf x) < 1048576
-  pub fit : All Fits (entriesOf x)
-
--- it was W and held x, and now holds y; every slot in use outside x is as it was
-pub record Becomes (st : Settings) (W W′ : List ℕ) (x y : Index) : Type 0 where
-  pub held : Held st W′
-  pub header : headIn W′ ≡ headIn W
-  pub holds : HoldsIndex (nodes st W′) y
-  pub frame : Frame (nodes st W) (nodes st W′) (slotsOf x)
-
--- A ROOT THAT IS SPLIT
-
-pub record ToSplitRoot (st : Settings) (W : List ℕ) (h : ℕ) (spare : Spare) : Type 0 where
-  pub keeps : ToCollapse st W (indexAt (st .root) (nodes st W) h)
-  pub spared : Spared (nodes st W) spare
-  -- one slot for each half
-  pub two : 2 ≤ length (unusedOf (nodes st W))
-
-pub record Halved (st : Settings) (W W′ : List ℕ) (h : ℕ) (r : Spare) : Type 0 where
-  pub becomes : let x = indexAt (st .root) (nodes st W) h in Becomes st W W′ x (splitRoot h (x .root) (x .unused))
-  pub spared : Spared (nodes st W′) r
-
--- its rows go to a new node of its kind, in the lowest unused slot ..
-pub record ToMove (st : Settings) (W : List ℕ) (low : ℕ) : Type 0 where
-  pub held : Held st W
-  pub empty : Blank (nodes st W)
-  pub slot : low < st .nodes
-  pub free : nth (nodes st W) low .kind ≡ unusedKind
-  pub used : nth (nodes st W) (st .root) .kind ≢ unusedKind
-
+-- the rows of the root in a new node of its kind
 abbrev pub moved : ℕ → List S.Node → ℕ → List S.Node
 moved root ns new = put2 ns new (nth ns root) root (withRows (nth ns root) [])
 
--- .. and it becomes the parent of that node and another, of height h
-pub record ToCrown (st : Settings) (W : List ℕ) (h lower upper : ℕ) : Type 0 where
-  pub held : Held st W
-  pub root : st .root < st .nodes
-  pub slot : lower < st .nodes
-  pub slot2 : upper < st .nodes
-  pub sums : Sums h (rowsAt st W lower)
-  pub sums2 : Sums h (rowsAt st W upper)
-  pub bare : rowsAt st W (st .root) ≡ []
-
+-- the root as the parent of two nodes of height h
 abbrev pub crowned : ℕ → List S.Node → ℕ → ℕ → ℕ → List S.Node
 crowned root ns h lower upper =
     set ns root (record { kind = interiorKind; rows = rowOver h lower (nth ns lower .rows) ∷ rowOver h upper (nth ns upper .rows) ∷ [] })
 
--- A ROOT AFTER A CALL, with its result
-
-pub record ToSettleRoot (st : Settings) (W : List ℕ) (root : Root) (v : ChangeResult) : Type 0 where
-  pub keeps : ToCollapse st W (indexAt (st .root) (nodes st W) (root .height))
-  pub spared : Spared (nodes st W) (root .spare)
-  -- a split takes a slot for each half
-  pub two : v ≡ Split → 2 ≤ length (unusedOf (nodes st W))
-  pub gone : v ≡ Remove → treeAt (nodes st W) (root .height) (st .root) .items ≡ []
-  -- one level more can be counted
-  pub bounded : root .height < 64
-
-pub record RootSettled (st : Settings) (W W′ : List ℕ) (x y : Index) (r : Root) : Type 0 where
-  pub becomes : Becomes st W W′ x y
-  pub height : r .height ≡ y .height
-  pub spared : Spared (nodes st W′) (r .spare)
-
-abbrev pub SettledRoot : Settings → List ℕ → List ℕ → ℕ → ChangeResult → Root → Type 0
-SettledRoot st W W′ h v r = let x = indexAt (st .root) (nodes st W) h in RootSettled st W W′ x (settleRoot v h (x .root) (x .unused)) r
-
--- A ROOT WITH ONE CHILD, of height h, gives way to it
-
-pub record ToLift (st : Settings) (W : List ℕ) (h : ℕ) (spare : Spare) : Type 0 where
-  pub keeps : ToCollapse st W (indexAt (st .root) (nodes st W) (suc h))
-  pub spared : Spared (nodes st W) spare
-  pub one : length (rowsAt st W (st .root)) ≡ 1
-
+-- the root with the items of its one child, of height h ..
 abbrev pub lifted : ℕ → List S.Node → ℕ → Index
 lifted root ns h =
     let c = childAt ns h root 0 in
     record { height = h; root = record { slot = root; items = c .items }; unused = release (c .slot) (unusedOf ns) }
-
-pub record Lifted (st : Settings) (W W′ : List ℕ) (h : ℕ) (r : Spare) : Type 0 where
-  pub becomes : Becomes st W W′ (indexAt (st .root) (nodes st W) (suc h)) (lifted (st .root) (nodes st W) h)
-  pub spared : Spared (nodes st W′) r
 
 -- .. as long as there is one
 abbrev pub collapsed : Index → Index

@@ -1,8 +1,9 @@
 // A root that is too long becomes the parent of its two halves, which take new slots. So the root stays in its slot.
 ghost use Rattle.words.specs.Words.{words};
 ghost use Rattle.slots.specs.Nodes.{nodes};
-ghost use Rattle.slots.specs.Contracts.{Now};
-ghost use Rattle.batch_root.specs.Roots.{ToSplitRoot, Halved, ToMove, moved, ToCrown, crowned};
+ghost use Rattle.slots.specs.Contracts.{NodesPut};
+ghost use Rattle.batch_root.specs.Contracts.{ToSplitRoot, Halved, ToMove, ToCrown};
+ghost use Rattle.batch_root.specs.Roots.{moved, crowned};
 use model::Settings;
 use model::half;
 use slots::INTERIOR;
@@ -28,7 +29,7 @@ pub fn split_root(pool: &mut [u8], st: Settings, height: usize, spare: Spare) ->
 // Moves the rows of the root to a new node of its kind, in the lowest unused slot.
 fn move_root(pool: &mut [u8], st: Settings, low: usize)
     requires { ⌜ ToMove st (words (now pool)) low ⌝ }
-    ensures { λ _. let W = words (now (pool .entry)) in ⌜ Now st W (words (now (pool .exit))) (moved (st .root) (nodes st W) low) ⌝ }
+    ensures { λ _. let W = words (now (pool .entry)) in ⌜ NodesPut st W (words (now (pool .exit))) (moved (st .root) (nodes st W) low) ⌝ }
 {
     let k = slots::kind(pool, st, st.root);
     let n = slots::count(pool, st, st.root);
@@ -40,7 +41,7 @@ fn move_root(pool: &mut [u8], st: Settings, low: usize)
 fn crown(pool: &mut [u8], st: Settings, height: usize, lower: usize, upper: usize)
     requires { ⌜ ToCrown st (words (now pool)) height lower upper ⌝ }
     ensures { λ _. let W = words (now (pool .entry)) in
-        ⌜ Now st W (words (now (pool .exit))) (crowned (st .root) (nodes st W) height lower upper) ⌝ }
+        ⌜ NodesPut st W (words (now (pool .exit))) (crowned (st .root) (nodes st W) height lower upper) ⌝ }
 {
     let a = weigh(pool, st, height, lower);
     let b = weigh(pool, st, height, upper);

@@ -2,7 +2,8 @@
 ghost use Rattle.words.specs.Words.{words};
 ghost use Rattle.slots.specs.Nodes.{nodes};
 ghost use Rattle.tree_spare.specs.Spared.{Spared};
-ghost use Rattle.batch_root.specs.Roots.{indexAt, ToCollapse, RootSettled, ToLift, Lifted, collapsed};
+ghost use Rattle.batch_root.specs.Roots.{indexAt, collapsed};
+ghost use Rattle.batch_root.specs.Contracts.{Holding, RootLeft, ToLift, Lifted};
 use crate::Root;
 use model::Settings;
 use tree_spare::Spare;
@@ -10,11 +11,11 @@ use tree_spare::after_freeing;
 
 // While an interior root has one child, moves that child into the root's slot.
 pub fn collapse(pool: &mut [u8], st: Settings, root: Root) -> Root
-    requires keeps { ⌜ ToCollapse st (words (now pool)) (indexAt (st .root) (nodes st (words (now pool))) (root .height)) ⌝ }
+    requires keeps { ⌜ Holding st (words (now pool)) (indexAt (st .root) (nodes st (words (now pool))) (root .height)) ⌝ }
     requires spared { ⌜ Spared (nodes st (words (now pool))) (root .spare) ⌝ }
     ensures { λ r. let W = words (now (pool .entry)) in
         let x = indexAt (st .root) (nodes st W) (root .height) in
-        ⌜ RootSettled st W (words (now (pool .exit))) x (collapsed x) r ⌝ }
+        ⌜ RootLeft st W (words (now (pool .exit))) x (collapsed x) r ⌝ }
 {
     let mut height = root.height;
     let mut spare = root.spare;

@@ -4,7 +4,7 @@ ghost use mathlib.Core.Bool.{_||_};
 ghost use lib.ListN.{length};
 ghost use Rattle.words.specs.Words.{words};
 ghost use Rattle.slots.specs.Nodes.{rowsAt};
-ghost use Rattle.slots.specs.Contracts.{At};
+ghost use Rattle.slots.specs.Contracts.{ToTouch};
 ghost use Rattle.model.specs.Change.{resultOf, isChange, ceilingFor};
 ghost use Rattle.batch_seek.specs.Seek.{roams};
 use model::ChangeResult;
@@ -20,7 +20,7 @@ pub fn roams_on(
     ceiling: u64,
     i: usize,
 ) -> bool
-    requires { ⌜ At st (words (now pool)) s ⌝ }
+    requires { ⌜ ToTouch st (words (now pool)) s ⌝ }
     ensures { λ r. ⌜ r ≡ roams (now (keys .entry)) next ceiling i (length (rowsAt st (words (now (pool .entry))) s)) ⌝ }
 {
     if next < keys.len() {

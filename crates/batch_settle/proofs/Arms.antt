@@ -8,7 +8,7 @@ use lib.ListN.{length, take, getD, set, length-map, length-take, length-reverseA
 use Rattle.slots_raw.specs.declared.Row.{Row}
 use Rattle.slots_raw.specs.Slots.{blank}
 use Rattle.slots.specs.Nodes.{nodes, nth, unused, putRows}
-use Rattle.slots.specs.Contracts.{Now}
+use Rattle.slots.specs.Contracts.{NodesPut}
 use Rattle.slots.specs.Nodes as S
 use Rattle.slots.proofs.Nodes.{length-nodes, nth-rows, nth-put}
 use Rattle.model.specs.declared.Settings.{Settings}
@@ -27,10 +27,9 @@ use Rattle.tree.proofs.Unused.{used-in}
 use Rattle.model.specs.declared.ChangeResult.{ChangeResult}
 use Rattle.model.specs.declared.ChangeResult.the-variants.{Unchanged}
 use Rattle.batch_share.specs.declared.Standing.{Standing}
-use Rattle.batch_share.specs.Settle.{inner, kidsAt, childAt, beforeAt, afterAt, ToSettle, Settled, Ended, Done}
+use Rattle.batch_share.specs.Children.{inner, kidsAt, childAt, beforeAt, afterAt, renewed}
+use Rattle.batch_share.specs.Contracts.{ToSettle, Settled, Ended, ChildSettled, ToRenew, Bounded, Family, Poise, ToStep, Came}
 use Rattle.tree_node.specs.Ask.{rowOver}
-use Rattle.batch_share.specs.Renew.{ToRenew, renewed}
-use Rattle.batch_share.specs.Steps.{Bounded, Family, Poise, ToStep, Came}
 use Rattle.tree_node.proofs.Weights.{row-over}
 use Rattle.batch_share.proofs.Weights.{sums-fit, bounded-left, bounded-right}
 use Rattle.batch_share.proofs.Zips.{set-turned, map-turned}
@@ -95,12 +94,12 @@ module _ {st : Settings} {W : List ℕ} {h s i : ℕ} {spare : Spare} {v : Chang
   from-kids W₂ q m = subst (λ (ks : List (Tree h)). Came st W W₂ h s ks q) kids-are m
 
   -- a child that did not change stands in its parent's row as it is
-  pub arm-rests : (r : Standing) → v ≡ Unchanged → r .at ≡ i → r .spare ≡ spare → Done st W W h s i v r
+  pub arm-rests : (r : Standing) → v ≡ Unchanged → r .at ≡ i → r .spare ≡ spare → ChildSettled st W W h s i v r
   arm-rests r e ea el =
       let top : nth ns s ≡ nodeFor (suc h) (inner h s kids) =
       t .loose .parent ∙ ap (λ (n : Tree h). nodeFor (suc h) (inner h s (reverseAux b (n ∷ a)))) (sym (t .kept e)) in
       let rests : Settled h s ns ns kids first = record { holds = one top (t .loose .kids); unused = refl; frame = λ x u z. refl; empty = t .empty } in
-      subst (λ (x : ChangeResult). Done st W W h s i x r) (sym e)
+      subst (λ (x : ChangeResult). ChildSettled st W W h s i x r) (sym e)
       (ended-by st W W h s Unchanged r b c a first refl (from-kids W first (record { held = t .held; header = refl; settled = rests })) (ea ∙ place)
       (subst (Spared ns) (sym el) (t .spared)))
 
@@ -125,7 +124,7 @@ module _ {st : Settings} {W : List ℕ} {h s i : ℕ} {spare : Spare} {v : Chang
       }
 
   -- THE ROW MADE NEW
-  module _ (W₁ : List ℕ) (w : Now st W W₁ (renewed ns h s i y)) where
+  module _ (W₁ : List ℕ) (w : NodesPut st W W₁ (renewed ns h s i y)) where
     abbrev newRows : List Row
     newRows = set (nth ns s .rows) i (rowOver h y (nth ns y .rows))
 
@@ -210,14 +209,14 @@ module _ {st : Settings} {W : List ℕ} {h s i : ℕ} {spare : Spare} {v : Chang
         (to-readings (poise-focus poise) (λ p q r. Poise st W₁ h s i spare (takes v) p q r × Says st v q) (poise, t .says))
 
     -- a result that leaves the place as it is
-    pub arm-stays : (u : ChangeResult) (r : Standing) → v ≡ u → settle st u b c a (unusedOf ns) ≡ first → r .at ≡ i → r .spare ≡ spare → Done st W W₁ h s i v r
+    pub arm-stays : (u : ChangeResult) (r : Standing) → v ≡ u → settle st u b c a (unusedOf ns) ≡ first → r .at ≡ i → r .spare ≡ spare → ChildSettled st W W₁ h s i v r
     arm-stays u r e q ea el =
-        subst (λ (x : ChangeResult). Done st W W₁ h s i x r) (sym e)
+        subst (λ (x : ChangeResult). ChildSettled st W W₁ h s i x r) (sym e)
         (ended-by st W W₁ h s u r b c a first q (from-kids W₁ first (record { held = w .held; header = w .header; settled = first-settled }))
         (ea ∙ place) (subst (Spared (nodes st W₁)) (sym el) (poise .spared)))
 
     -- a result that goes on from there
-    pub arm-ends : (u : ChangeResult) (W₂ : List ℕ) (r : Standing) → v ≡ u → Done st W₁ W₂ h s i u r → Done st W W₂ h s i v r
+    pub arm-ends : (u : ChangeResult) (W₂ : List ℕ) (r : Standing) → v ≡ u → ChildSettled st W₁ W₂ h s i u r → ChildSettled st W W₂ h s i v r
     arm-ends u W₂ r e d =
         let x : Ended st W₁ W₂ h s u r kids b c a =
         subst (λ (ks : List (Tree h)). Ended st W₁ W₂ h s u r ks b c a) (family-kids family)
@@ -232,5 +231,5 @@ module _ {st : Settings} {W : List ℕ} {h s i : ℕ} {spare : Spare} {v : Chang
               then-settled h s ns (nodes st W₁) (nodes st W₂) kids first q first-settled
               (subst (Settled h s (nodes st W₁) (nodes st W₂) kids) same (x .settled)) (λ z. refl);
         } in
-        subst (λ (z : ChangeResult). Done st W W₂ h s i z r) (sym e)
+        subst (λ (z : ChangeResult). ChildSettled st W W₂ h s i z r) (sym e)
         (ended-by st W W₂ h s u r b c a q refl (from-kids W₂ q m) (x .at ∙ ap (λ (p : Place (Tree h)). length (p .before)) same) (x .spared))

@@ -3,10 +3,10 @@ ghost use lib.ListN.{getD};
 ghost use Rattle.words.specs.Words.{words};
 ghost use Rattle.slots_raw.specs.Slots.{blank};
 ghost use Rattle.slots.specs.Nodes.{nodes, rowsAt};
-ghost use Rattle.slots.specs.Contracts.{Now};
+ghost use Rattle.slots.specs.Contracts.{NodesPut};
 ghost use Rattle.tree.specs.Bridge.{childOf};
-ghost use Rattle.batch_share.specs.Settle.{ToSettle, Done};
-ghost use Rattle.batch_share.specs.Renew.{ToRenew, renewed};
+ghost use Rattle.batch_share.specs.Contracts.{ToSettle, ChildSettled, ToRenew};
+ghost use Rattle.batch_share.specs.Children.{renewed};
 use batch_join::absorb;
 use batch_join::take_out;
 use batch_share::Standing;
@@ -28,7 +28,7 @@ pub fn settle_child(
     spare: Spare,
 ) -> Standing
     requires { ⌜ ToSettle st (words (now pool)) below s i spare v ⌝ }
-    ensures { λ r. ⌜ Done st (words (now (pool .entry))) (words (now (pool .exit))) below s i v r ⌝ }
+    ensures { λ r. ⌜ ChildSettled st (words (now (pool .entry))) (words (now (pool .exit))) below s i v r ⌝ }
 {
     match v {
         ChangeResult::Unchanged => Standing { at: i, spare },
@@ -55,7 +55,7 @@ pub fn settle_child(
 fn renew_child(pool: &mut [u8], st: Settings, below: usize, s: usize, i: usize)
     requires { let W = words (now pool) in ⌜ ToRenew st W below s i (childOf (getD (rowsAt st W s) i blank)) ⌝ }
     ensures { λ _. let W = words (now (pool .entry)) in
-        ⌜ Now st W (words (now (pool .exit))) (renewed (nodes st W) below s i (childOf (getD (rowsAt st W s) i blank))) ⌝ }
+        ⌜ NodesPut st W (words (now (pool .exit))) (renewed (nodes st W) below s i (childOf (getD (rowsAt st W s) i blank))) ⌝ }
 {
     let c = child_at(pool, st, s, i);
     renew(pool, st, below, s, i, c);

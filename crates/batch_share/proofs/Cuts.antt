@@ -8,7 +8,7 @@ use lib.ListN.{length, take, drop, length-map, length-append, take-append-drop}
 use lib.Seq.{set-comm, take-append-add, drop-append-add, take-append-le, drop-append-le}
 use Rattle.slots_raw.specs.declared.Row.{Row}
 use Rattle.slots.specs.Nodes.{nodes, nth, rowsAt, put2, withRows, backNodes, forwardNodes}
-use Rattle.slots.specs.Contracts.{Now}
+use Rattle.slots.specs.Contracts.{NodesPut}
 use Rattle.slots.specs.Nodes as S
 use Rattle.slots.proofs.Nodes.{become}
 use Rattle.slots_raw.proofs.Over.{map-append, map-take, map-drop}
@@ -18,7 +18,8 @@ use Rattle.model.specs.Share.{Two, half, cutAt, handed, shareBack, shareOn}
 use Rattle.model.specs.Sound.{InLimits}
 use Rattle.model.proofs.Settles.{back-same, on-same}
 use Rattle.tree.specs.Bridge.{rowFor, nodeFor}
-use Rattle.batch_share.specs.Steps.{Beside, handedRows, levelNodes}
+use Rattle.batch_share.specs.Contracts.{Beside}
+use Rattle.batch_share.specs.Children.{handedRows, levelNodes}
 use Rattle.batch_share.proofs.Places.{node-len}
 use Rattle.batch_share.proofs.Turns.{Recut, Moved, own-lower, own-upper, apart-two}
 
@@ -123,17 +124,17 @@ module _ {st : Settings} {W : List ℕ} {h s i : ℕ} {b : List (Tree h)} {p c :
       ap (λ (m : ℕ). min (st .order - m) (length (rowsAt st W x) - st .minimum)) long-upper
       ∙ ap (λ (m : ℕ). min (st .order - len c) (m - st .minimum)) long-lower
 
-  pub gave-back : (k : ℕ) → k ≡ handedRows st W y x → Now st W W₁ (backNodes ns x y k) → Moves (shareBack st p c .lower) (shareBack st p c .upper)
+  pub gave-back : (k : ℕ) → k ≡ handedRows st W y x → NodesPut st W W₁ (backNodes ns x y k) → Moves (shareBack st p c .lower) (shareBack st p c .upper)
   gave-back k ek w =
       let e = (λ j. backNodes ns (ex j) (ey j) ((ek ∙ handed-back) j)) ∙ back-cut ns h p c (own-lower t) (own-upper t) (handed st c p) in
       record { recut = recut-back st h p c limits; lower = ex; upper = ey; now = become st W W₁ _ _ w e }
 
-  pub gave-on : (k : ℕ) → k ≡ handedRows st W x y → Now st W W₁ (forwardNodes ns x y k) → Moves (shareOn st p c .lower) (shareOn st p c .upper)
+  pub gave-on : (k : ℕ) → k ≡ handedRows st W x y → NodesPut st W W₁ (forwardNodes ns x y k) → Moves (shareOn st p c .lower) (shareOn st p c .upper)
   gave-on k ek w =
       let e = (λ j. forwardNodes ns (ex j) (ey j) ((ek ∙ handed-on) j)) ∙ on-cut ns h p c (own-lower t) (own-upper t) (handed st p c) (apart-two t) in
       record { recut = recut-on st h p c limits; lower = ex; upper = ey; now = become st W W₁ _ _ w e }
 
-  pub evened : Now st W W₁ (levelNodes ns x y) → Moves (even h p c .lower) (even h p c .upper)
+  pub evened : NodesPut st W W₁ (levelNodes ns x y) → Moves (even h p c .lower) (even h p c .upper)
   evened w =
       let e = (λ j. levelNodes ns (ex j) (ey j)) ∙ even-cut ns h p c (own-lower t) (own-upper t) in
       record { recut = recut-even h p c; lower = ex; upper = ey; now = become st W W₁ _ _ w e }

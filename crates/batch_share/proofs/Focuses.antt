@@ -19,9 +19,8 @@ use Rattle.tree.specs.Bridge as T
 use Rattle.tree.proofs.Cells.{cells-rest}
 use Rattle.tree.proofs.Unused.{used-in}
 use Rattle.tree_spare.specs.declared.Spare.{Spare}
-use Rattle.batch_share.specs.Settle.{inner, childAt}
-use Rattle.batch_share.specs.Renew.{ToName}
-use Rattle.batch_share.specs.Steps.{Bounded, Focus, ToFocus, Poise}
+use Rattle.batch_share.specs.Children.{inner, childAt}
+use Rattle.batch_share.specs.Contracts.{ToName, Bounded, Focus, ToFocus, Poise}
 use Rattle.batch_share.proofs.Weights.{bounded-left, bounded-right}
 use Rattle.batch_share.proofs.Zips.{map-turned}
 use Rattle.batch_share.proofs.Places.{node-used, Named, named-at, family-rows, family-long, parent-in}

@@ -8,7 +8,7 @@ use lib.ListN.{length, take, drop, getD, length-map, List·getD-map}
 use Rattle.slots_raw.specs.declared.Row.{Row}
 use Rattle.slots_raw.specs.Slots.{blank}
 use Rattle.slots.specs.Nodes.{nodes, nth, rowsAt}
-use Rattle.slots.specs.Contracts.{Rows}
+use Rattle.slots.specs.Contracts.{ToTouchRows}
 use Rattle.slots.specs.Nodes as S
 use Rattle.slots.proofs.Nodes.{length-nodes}
 use Rattle.model.specs.declared.Settings.{Settings}
@@ -21,9 +21,8 @@ use Rattle.tree.proofs.Cells.{kind-used}
 use Rattle.tree.proofs.Unused.{used-in}
 use Rattle.tree.proofs.ReadOff.{kids-read}
 use Rattle.tree.proofs.SoundHolds.{slot-read}
-use Rattle.batch_share.specs.Settle.{inner, kidsAt, childAt, beforeAt, afterAt}
-use Rattle.batch_share.specs.Renew.{ToName}
-use Rattle.batch_share.specs.Steps.{Family, Came}
+use Rattle.batch_share.specs.Children.{inner, kidsAt, childAt, beforeAt, afterAt}
+use Rattle.batch_share.specs.Contracts.{ToName, Family, Came}
 use Rattle.batch_share.proofs.Zips.{take-turned, drop-turned, getD-turned, twice-turned, apart-at}
 
 -- ONE NODE
@@ -41,7 +40,7 @@ pub record Named (st : Settings) (W : List ℕ) (h : ℕ) (c : Tree h) (r : ℕ)
   pub count : length (rowsAt st W r) ≡ len c
 
 module _ {st : Settings} {W : List ℕ} {h s i : ℕ} {c : Tree h} (t : ToName st W h s i c) where
-  pub sits-row : Rows st W s i 1
+  pub sits-row : ToTouchRows st W s i 1
   sits-row = record { held = t .held; slot = t .parent; within = omega (arith, t .within) }
 
 -- the slot that row i names is that of child i

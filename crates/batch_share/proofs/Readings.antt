@@ -9,8 +9,8 @@ use Rattle.model.specs.Tree.{Tree}
 use Rattle.model.specs.Share.{Row, stay}
 use Rattle.tree.specs.Bridge.{unusedOf}
 use Rattle.tree_spare.specs.declared.Spare.{Spare}
-use Rattle.batch_share.specs.Settle.{kidsAt, childAt, beforeAt, afterAt}
-use Rattle.batch_share.specs.Steps.{Focus, Beside, Left, Rowed}
+use Rattle.batch_share.specs.Children.{kidsAt, childAt, beforeAt, afterAt}
+use Rattle.batch_share.specs.Contracts.{Focus, Beside, Left, Rowed}
 use Rattle.batch_share.proofs.Places.{family-kids, kids-came, before-is, child-is, after-is}
 
 -- ONE CHILD

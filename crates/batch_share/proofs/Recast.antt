@@ -19,7 +19,8 @@ use Rattle.model.proofs.Trees.{joined-append, own, own-append, slotsIn, slots-a
 use Rattle.tree.specs.Bridge.{rowFor, nodeFor, Cell, cells, cellsOf, Stands, Holds, Apart, Blank, unusedOf}
 use Rattle.tree.proofs.Cells.{agree-items, used-tree, cells-append, turned-cells, cells-rest, cells-before, slots-turned}
 use Rattle.tree.proofs.Unused.{used-none}
-use Rattle.batch_share.specs.Settle.{inner, Settled}
+use Rattle.batch_share.specs.Children.{inner}
+use Rattle.batch_share.specs.Contracts.{Settled}
 use Rattle.batch_share.proofs.Parents.{unused-rows}
 
 -- A FAMILY is its children's own nodes and what stands below them. So a step that keeps the joined items has only own nodes to show.

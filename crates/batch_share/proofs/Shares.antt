@@ -19,15 +19,14 @@ use Rattle.model.proofs.Lists.{all-head, all-tail}
 use Rattle.model.proofs.Settles.{on-stocked, back-stocked}
 use Rattle.tree.specs.Bridge.{unusedOf}
 use Rattle.model.specs.Change.{settle}
-use Rattle.batch_share.specs.Settle.{kidsAt, childAt, afterAt, Settled, Ended}
+use Rattle.batch_share.specs.Children.{kidsAt, childAt, afterAt, roomIn}
+use Rattle.batch_share.specs.Contracts.{Settled, Ended, ToName, Family, Focus, Poise, ToStep, Beside, Neighbours, Came, Left, Parted, Rowed}
 use Rattle.model.specs.declared.ChangeResult.{ChangeResult}
 use Rattle.model.specs.declared.ChangeResult.the-variants.{Split}
 use Rattle.tree_spare.specs.declared.Spare.{Spare}
 use Rattle.tree_spare.specs.Spared.{Spared}
 use Rattle.tree_spare.proofs.Spares.{spared-same}
 use Rattle.batch_share.specs.declared.Standing.{Standing}
-use Rattle.batch_share.specs.Renew.{ToName}
-use Rattle.batch_share.specs.Steps.{Family, Focus, Poise, ToStep, Beside, Neighbours, Came, Left, Parted, Rowed, roomIn}
 use Rattle.batch_share.proofs.Places.{family-long, came-kids, kids-came}
 use Rattle.batch_share.proofs.Turns.{recut-family, recut-then, sits-lower}
 use Rattle.batch_share.proofs.Cuts.{recut-back, recut-on}

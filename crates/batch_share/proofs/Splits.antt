@@ -9,9 +9,9 @@ use lib.ListN.{length, take, drop, set, take-append-drop}
 use lib.Seq.{getD-set-other}
 use Rattle.slots_raw.specs.declared.Row as R
 use Rattle.slots.specs.Nodes.{nodes, nth, rowsAt, unused, putRows, putIn, put2, withRows, splitNodes}
-use Rattle.slots.specs.Contracts.{Room, Now, ToSplit}
+use Rattle.slots.specs.Contracts.{ToPutIn, NodesPut, ToSplit}
 use Rattle.slots.specs.Nodes as S
-use Rattle.slots_find.specs.Search.{Lowest}
+use Rattle.slots_find.specs.Contracts.{Lowest}
 use Rattle.slots.proofs.Nodes.{length-nodes}
 use Rattle.slots_raw.proofs.Over.{map-take, map-drop}
 use Rattle.slots.proofs.Pads.{length-putIn}
@@ -27,11 +27,10 @@ use Rattle.tree.proofs.Unused.{unused-taken, unused-kept}
 use Rattle.tree_spare.specs.declared.Spare.{Spare}
 use Rattle.tree_spare.specs.Spared.{Spared, ToTake}
 use Rattle.tree_spare.proofs.Spares.{spared-in, spared-taken}
-use Rattle.batch_share.specs.Settle.{kidsAt, Settled}
-use Rattle.tree.specs.Sums.{ToWeigh}
+use Rattle.batch_share.specs.Children.{kidsAt, renewed}
+use Rattle.batch_share.specs.Contracts.{Settled, ToRenew, Bounded, Focus, Poise, Came, Left}
+use Rattle.tree.specs.Contracts.{ToWeigh}
 use Rattle.tree_node.specs.Ask.{rowOver}
-use Rattle.batch_share.specs.Renew.{ToRenew, renewed}
-use Rattle.batch_share.specs.Steps.{Bounded, Focus, Poise, Came, Left}
 use Rattle.tree_node.proofs.Weights.{row-over}
 use Rattle.batch_share.proofs.Weights.{sums-fit, bounded-left, bounded-right}
 use Rattle.batch_share.proofs.Zips.{set-turned, putIn-turned, map-turned}
@@ -39,8 +38,7 @@ use Rattle.batch_share.proofs.Places.{node-len, parent-in, came-kids}
 use Rattle.batch_share.proofs.Parents.{renews-after, renewed-after}
 use Rattle.batch_share.proofs.Recast.{recast-settles}
 use Rattle.batch_share.proofs.Puts.{put-first, put-second, put-other, length-put, blank-set}
-use Rattle.batch_share.proofs.Focuses.{poise-focus, own-focus, focus-away, focus-used, parent-used}
-use Rattle.batch_share.proofs.Focuses.{focus-in, focus-long, focus-bounded, focus-rows, focus-place, focus-next}
+use Rattle.batch_share.proofs.Focuses.{poise-focus, own-focus, focus-away, focus-used, parent-used, focus-in, focus-long, focus-bounded, focus-rows, focus-place, focus-next}
 
 -- y is what the code has for the child's slot, and `keep` for the rows that it keeps, which are k in the model
 pub record Keeps (h : ℕ) (c : Tree h) (y keep k : ℕ) : Type 0 where
@@ -137,7 +135,7 @@ module _ {st : Settings} {W : List ℕ} {h s i : ℕ} {spare : Spare} {b : List 
   upper-bounded : Bounded h (upperPart .items)
   upper-bounded = bounded-right h (lowerPart .items) (upperPart .items) cut-bounded
 
-  module _ (W₁ : List ℕ) (w : Now st W W₁ (splitNodes ns y x keep)) where
+  module _ (W₁ : List ℕ) (w : NodesPut st W W₁ (splitNodes ns y x keep)) where
     nodes-cut : nodes st W₁ ≡ cutNodes
     nodes-cut = w .is ∙ (λ j. splitNodes ns (ey j) x (keeps .rows j)) ∙ cut-is
 
@@ -150,7 +148,7 @@ module _ {st : Settings} {W : List ℕ} {h s i : ℕ} {spare : Spare} {b : List 
     parent-rows : rowsAt st W₁ s ≡ rowsAt st W s
     parent-rows = rows-in s (nth ns s) at-parent
 
-    pub upper-room : Room st W₁ s (i + 1) 1
+    pub upper-room : ToPutIn st W₁ s (i + 1) 1
     upper-room =
         record {
           held = w .held;
@@ -160,7 +158,7 @@ module _ {st : Settings} {W : List ℕ} {h s i : ℕ} {spare : Spare} {b : List 
         }
 
     module _ (row : R.Row) (er : row ≡ rowOver h x (rowsAt st W₁ x)) (W₂ : List ℕ)
-        (v : Now st W₁ W₂ (putRows (nodes st W₁) s (putIn (rowsAt st W₁ s) (i + 1) (row ∷ [])))) where
+        (v : NodesPut st W₁ W₂ (putRows (nodes st W₁) s (putIn (rowsAt st W₁ s) (i + 1) (row ∷ [])))) where
       abbrev more : List R.Row
       more = putIn (rowsAt st W₁ s) (i + 1) (row ∷ [])
 
@@ -223,7 +221,7 @@ module _ {st : Settings} {W : List ℕ} {h s i : ℕ} {spare : Spare} {b : List 
       model-new : x ≡ lowest (unusedOf ns)
       model-new = sym (unused-taken ns x (nodeFor h upperPart) lo (inside new-in) (kind-used h) .0)
 
-      module _ (W₃ : List ℕ) (u : Now st W₂ W₃ (renewed (nodes st W₂) h s i y)) where
+      module _ (W₃ : List ℕ) (u : NodesPut st W₂ W₃ (renewed (nodes st W₂) h s i y)) where
         cut-came : Came st W W₃ h s (reverseAux b (c ∷ a)) (cutPlace lowerPart upperPart)
         cut-came =
             let q = renewed-after st W₁ W₂ h s i y more (parent-in (t .family)) (λ e. focus-away t (sym ey ∙ e)) v W₃ u in

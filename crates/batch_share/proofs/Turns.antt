@@ -8,7 +8,7 @@ use lib.ListN.{length, getD, set, length-map, length-reverseAux}
 use Rattle.slots_raw.specs.declared.Row.{Row}
 use Rattle.slots_raw.specs.Slots.{blank}
 use Rattle.slots.specs.Nodes.{nodes, nth, rowsAt, putRows, put2}
-use Rattle.slots.specs.Contracts.{Now}
+use Rattle.slots.specs.Contracts.{NodesPut}
 use Rattle.slots.specs.Nodes as S
 use Rattle.slots.proofs.Nodes.{length-nodes, fits-node}
 use Rattle.model.specs.declared.Settings.{Settings}
@@ -22,10 +22,9 @@ use Rattle.tree.specs.Bridge.{rowFor, nodeFor, childOf, unusedOf}
 use Rattle.tree.specs.Bridge as T
 use Rattle.tree.proofs.Cells.{cells-rest, kind-used}
 use Rattle.tree.proofs.Unused.{used-in}
-use Rattle.batch_share.specs.Settle.{inner, kidsAt, childAt, Settled}
+use Rattle.batch_share.specs.Children.{inner, kidsAt, childAt, renewedTwo}
+use Rattle.batch_share.specs.Contracts.{Settled, ToName, ToRenewTwo, Bounded, Family, Beside, Neighbours, Came}
 use Rattle.tree_node.specs.Ask.{rowOver}
-use Rattle.batch_share.specs.Renew.{ToName, ToRenewTwo, renewedTwo}
-use Rattle.batch_share.specs.Steps.{Bounded, Family, Beside, Neighbours, Came}
 use Rattle.tree_node.proofs.Weights.{row-over}
 use Rattle.batch_share.proofs.Weights.{sums-fit, bounded-left, bounded-right}
 use Rattle.batch_share.proofs.Zips.{set-turned, map-turned}
@@ -153,7 +152,7 @@ module _ {st : Settings} {W : List ℕ} {h s i : ℕ} {b : List (Tree h)} {p c :
     at-parent : nth cutNodes s ≡ nth (nodes st W) s
     at-parent = put-other (nodes st W) (p .slot) (nodeFor h p′) (c .slot) (nodeFor h c′) s (λ e. apart-lower (sym e)) (λ e. apart-upper (sym e))
 
-    module _ (W₁ : List ℕ) (w : Now st W W₁ cutNodes) (x y : ℕ) (ex : x ≡ p .slot) (ey : y ≡ c .slot) where
+    module _ (W₁ : List ℕ) (w : NodesPut st W W₁ cutNodes) (x y : ℕ) (ex : x ≡ p .slot) (ey : y ≡ c .slot) where
       rows-in : (z : ℕ) (n : S.Node) → nth cutNodes z ≡ n → rowsAt st W₁ z ≡ n .rows
       rows-in z n e = ap (λ (ns : List S.Node). nth ns z .rows) (w .is) ∙ ap (λ (m : S.Node). m .rows) e
 
@@ -217,7 +216,7 @@ module _ {st : Settings} {W : List ℕ} {h s i : ℕ} {b : List (Tree h)} {p c :
           (omega (arith, parent-in (t .family), length-nodes st W, length-put (nodes st W) (p .slot) (nodeFor h p′) (c .slot) (nodeFor h c′)))
           cutRows rows-new
 
-      cut-came : (W₂ : List ℕ) → Now st W₁ W₂ (renewedTwo (nodes st W₁) h s i x y) → Came st W W₂ h s (kidsAt (nodes st W) h s) recut
+      cut-came : (W₂ : List ℕ) → NodesPut st W₁ W₂ (renewedTwo (nodes st W₁) h s i x y) → Came st W W₂ h s (kidsAt (nodes st W) h s) recut
       cut-came W₂ v =
           let e : nodes st W₂ ≡ putRows cutNodes s cutRows =
           v .is ∙ ap (λ (z : ℕ). renewedTwo (nodes st W₁) h s i z y) ex ∙ ap (λ (z : ℕ). renewedTwo (nodes st W₁) h s i (p .slot) z) ey
@@ -229,14 +228,14 @@ pub record Moved (st : Settings) (W W₁ : List ℕ) (h : ℕ) (p c p′ c′ : 
   pub recut : Recut h p c p′ c′
   pub lower : x ≡ p .slot
   pub upper : y ≡ c .slot
-  pub now : Now st W W₁ (put2 (nodes st W) (p .slot) (nodeFor h p′) (c .slot) (nodeFor h c′))
+  pub now : NodesPut st W W₁ (put2 (nodes st W) (p .slot) (nodeFor h p′) (c .slot) (nodeFor h c′))
 
 module _ {st : Settings} {W W₁ : List ℕ} {h s i x y : ℕ} {b : List (Tree h)} {p c p′ c′ : Tree h} {a : List (Tree h)} (t : Beside st W h s i b p c a)
     (m : Moved st W W₁ h p c p′ c′ x y) where
   pub moved-renews : ToRenewTwo st W₁ h s i x y
   moved-renews = cut-renews t (m .recut) W₁ (m .now) x y (m .lower) (m .upper)
 
-  pub moved-came : (W₂ : List ℕ) → Now st W₁ W₂ (renewedTwo (nodes st W₁) h s i x y)
+  pub moved-came : (W₂ : List ℕ) → NodesPut st W₁ W₂ (renewedTwo (nodes st W₁) h s i x y)
       → Came st W W₂ h s (kidsAt (nodes st W) h s) (record { before = b; rest = p′ ∷ c′ ∷ a; unused = unusedOf (nodes st W) })
   moved-came = cut-came t (m .recut) W₁ (m .now) x y (m .lower) (m .upper)
 

@@ -13,7 +13,7 @@ use Rattle.model.proofs.Trees.{flat-append}
 use Rattle.tree.specs.Bridge.{rowFor}
 use Rattle.tree.specs.Sums.{Sums}
 use Rattle.tree.proofs.Sums as T
-use Rattle.batch_share.specs.Steps.{Bounded}
+use Rattle.batch_share.specs.Contracts.{Bounded}
 
 pub sums-fit : (h : ℕ) (n : Tree h) → Bounded h (n .items) → Sums h (map (rowFor h) (n .items))
 sums-fit h n b = T.sums-fit h n (b .small) (b .fit)

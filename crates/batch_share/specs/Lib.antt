@@ -1,4 +1,4 @@
--- `Settle` says what settling a child's result asks and answers; `Renew` and `Steps` say so of the functions of which it is made.
-pub mod Settle
-pub mod Renew
-pub mod Steps
+-- `Children` names the children of a node in the pool and what sharing makes of them, `Contracts` has what settling a child's result, and each
+-- step of it, asks and promises.
+pub mod Children
+pub mod Contracts

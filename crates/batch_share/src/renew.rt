@@ -2,10 +2,10 @@
 ghost use mathlib.Core.Path.{_≡_};
 ghost use Rattle.words.specs.Words.{words};
 ghost use Rattle.slots.specs.Nodes.{nodes};
-ghost use Rattle.slots.specs.Contracts.{Now};
+ghost use Rattle.slots.specs.Contracts.{NodesPut};
 ghost use Rattle.model.specs.Tree.{len};
-ghost use Rattle.batch_share.specs.Settle.{childAt};
-ghost use Rattle.batch_share.specs.Renew.{ToName, ToRenew, renewed, ToRenewTwo, renewedTwo};
+ghost use Rattle.batch_share.specs.Children.{childAt, renewed, renewedTwo};
+ghost use Rattle.batch_share.specs.Contracts.{ToName, ToRenew, ToRenewTwo};
 use model::Settings;
 use tree_node::child_at;
 use tree_node::weigh;
@@ -21,7 +21,8 @@ pub fn renew_two(
     c: usize,
 )
     requires { ⌜ ToRenewTwo st (words (now pool)) below s i p c ⌝ }
-    ensures { λ _. let W = words (now (pool .entry)) in ⌜ Now st W (words (now (pool .exit))) (renewedTwo (nodes st W) below s i p c) ⌝ }
+    ensures { λ _. let W = words (now (pool .entry)) in
+        ⌜ NodesPut st W (words (now (pool .exit))) (renewedTwo (nodes st W) below s i p c) ⌝ }
 {
     renew(pool, st, below, s, i, p);
     renew(pool, st, below, s, i + 1, c);
@@ -30,7 +31,7 @@ pub fn renew_two(
 // Row `i` of node `s` becomes that of node `c`, of height `below`.
 pub fn renew(pool: &mut [u8], st: Settings, below: usize, s: usize, i: usize, c: usize)
     requires { ⌜ ToRenew st (words (now pool)) below s i c ⌝ }
-    ensures { λ _. let W = words (now (pool .entry)) in ⌜ Now st W (words (now (pool .exit))) (renewed (nodes st W) below s i c) ⌝ }
+    ensures { λ _. let W = words (now (pool .entry)) in ⌜ NodesPut st W (words (now (pool .exit))) (renewed (nodes st W) below s i c) ⌝ }
 {
     let row = weigh(pool, st, below, c);
     slots::set_row(pool, st, s, i, row);

@@ -9,8 +9,8 @@ ghost use Rattle.model.specs.Share.{half, cutAt, shareBack, shareOn, splitOver,
 ghost use Rattle.model.specs.declared.ChangeResult.the-variants.{Split};
 ghost use Rattle.model.specs.Contracts.{Says};
 ghost use Rattle.tree.specs.Bridge.{unusedOf};
-ghost use Rattle.batch_share.specs.Settle.{Done, childAt, beforeAt, afterAt};
-ghost use Rattle.batch_share.specs.Steps.{ToFocus, ToStep, Neighbours, Parted, Rowed, ToHand, handedRows, roomIn};
+ghost use Rattle.batch_share.specs.Contracts.{ChildSettled, ToFocus, ToStep, Neighbours, Parted, Rowed, ToHand};
+ghost use Rattle.batch_share.specs.Children.{childAt, beforeAt, afterAt, handedRows, roomIn};
 use crate::Standing;
 use crate::renew::child_len;
 use crate::renew::renew;
@@ -33,7 +33,7 @@ pub fn share_out(
 ) -> Standing
     requires steps { ⌜ ToStep st (words (now pool)) below s i spare 1 ⌝ }
     requires says { ⌜ Says st Split (childAt (nodes st (words (now pool))) below s i) ⌝ }
-    ensures { λ r. ⌜ Done st (words (now (pool .entry))) (words (now (pool .exit))) below s i Split r ⌝ }
+    ensures { λ r. ⌜ ChildSettled st (words (now (pool .entry))) (words (now (pool .exit))) below s i Split r ⌝ }
 {
     if room_before(pool, st, below, s, i) {
         give_back(pool, st, below, s, i - 1);

@@ -38,7 +38,8 @@ use Rattle.frame_text.specs.declared.WriteAnswer.the-variants as Write
 use Rattle.frame_text.specs.Contents as C
 use Rattle.frame_text.specs.Contents.{ofEntry, branchOf, ofBranch, held, frameOf, contentsOf}
 use Rattle.frame_text.specs.Answers.{Writes}
-use Rattle.frame.specs.Walk.{itemAt, entryFor, kindAt, frameAt, ToFind, Located}
+use Rattle.frame.specs.Frames.{itemAt, entryFor, kindAt, frameAt}
+use Rattle.frame.specs.Contracts.{ToFind, Located}
 use Rattle.frame_text.proofs.Coded.{frame-held}
 use Rattle.frame.proofs.Walks.{passed, frames-long, elem-past}
 

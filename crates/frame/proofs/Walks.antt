@@ -10,7 +10,7 @@ use lib.Seq.{take-suc, take-all}
 use Rattle.slots_raw.specs.declared.Row.{Row}
 use Rattle.slots_raw.specs.Slots.{blank}
 use Rattle.slots.specs.Nodes.{nodes, nth}
-use Rattle.slots.specs.Contracts.{At, Rows}
+use Rattle.slots.specs.Contracts.{ToTouch, ToTouchRows}
 use Rattle.slots.specs.Nodes as S
 use Rattle.model.specs.declared.Settings.{Settings}
 use Rattle.model.specs.Lists.{concat, none}
@@ -21,7 +21,8 @@ use Rattle.model.proofs.Trees.{slotsIn, leaf-bare}
 use Rattle.tree.specs.Bridge.{childOf, cells, treeAt}
 use Rattle.tree.proofs.SoundHolds.{slot-read}
 use Rattle.frame.specs.declared.Found.the-variants.{Node, Left}
-use Rattle.frame.specs.Walk.{itemAt, frameAt, ToFind, Located}
+use Rattle.frame.specs.Frames.{itemAt, frameAt}
+use Rattle.frame.specs.Contracts.{ToFind, Located}
 
 -- ONE OF SOME LISTS, joined
 
@@ -33,10 +34,10 @@ module _ {A B C : Type 0} (f : B → List C) (g : A → B) (d : A) where
 
 -- WHAT STANDS BELOW
 
-pub standing-at : (st : Settings) (W : List ℕ) (h s : ℕ) → ToFind st W h s → At st W s
+pub standing-at : (st : Settings) (W : List ℕ) (h s : ℕ) → ToFind st W h s → ToTouch st W s
 standing-at st W h s p = record { held = p .held; slot = subst (λ (x : ℕ). x < st .nodes) (slot-read (nodes st W) h s) (all-head (p .low)) }
 
-pub standing-row : (st : Settings) (W : List ℕ) (h s j : ℕ) → ToFind st W h s → j < length (nth (nodes st W) s .rows) → Rows st W s j 1
+pub standing-row : (st : Settings) (W : List ℕ) (h s j : ℕ) → ToFind st W h s → j < length (nth (nodes st W) s .rows) → ToTouchRows st W s j 1
 standing-row st W h s j p g = record { held = p .held; slot = standing-at st W h s p .slot; within = omega (arith, g) }
 
 pub child-standing : (st : Settings) (W : List ℕ) (h s j : ℕ) → ToFind st W (suc h) s → j < length (nth (nodes st W) s .rows)

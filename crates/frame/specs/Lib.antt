@@ -1,3 +1,5 @@
--- `Walk` says what a walk over a pool's slots finds, `Undo` what follows from the promises of writing and reading.
-pub mod Walk
+-- `Frames` says what a frame tells of rows and trees, `Contracts` what the walk over a pool's slots asks and finds, `Undo` what follows from the
+-- promises of writing and reading.
+pub mod Frames
+pub mod Contracts
 pub mod Undo

@@ -5,7 +5,7 @@ ghost use Rattle.words.specs.Words.{words};
 ghost use Rattle.slots.specs.Nodes.{nodes};
 ghost use Rattle.model.specs.Frame.{nodesIn};
 ghost use Rattle.tree.specs.Bridge.{treeAt};
-ghost use Rattle.frame.specs.Walk.{ToFind, Located};
+ghost use Rattle.frame.specs.Contracts.{ToFind, Located};
 use crate::Found;
 use model::Settings;
 use tree_node::child_at;

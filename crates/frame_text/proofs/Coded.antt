@@ -31,10 +31,6 @@ pub start-none : (k : Kind) → startOf k 0 ≡ 1
 start-none Leaf = refl
 start-none Interior = refl
 
-pub start-more : (k : Kind) (i : ℕ) → startOf k (i + 1) ≡ startOf k i + widthOf k
-start-more Leaf i = omega arith
-start-more Interior i = omega arith
-
 pub start-up : (k : Kind) (i n : ℕ) → i ≤ n → startOf k i ≤ startOf k n
 start-up Leaf i n h = omega arith
 start-up Interior i n h = omega arith

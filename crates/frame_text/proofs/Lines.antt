@@ -7,7 +7,6 @@ use mathlib.Core.List.{List, [], _∷_, _++_, append-assoc, append-nil}
 use lib.ListN.{length, take, drop, getD, set, length-append, take-append-drop}
 use lib.Seq.{take-suc, take-at, drop-at, drop-drop, length-take-le, set-at, set-append-left, append-snoc}
 use Rattle.slots_raw.specs.Over.{over}
-use Rattle.slots_raw.proofs.Over.{length-over}
 use Rattle.model.specs.Frame.{bytes, digit, hex}
 use Rattle.model.proofs.Frames.{hex-long, hex-append}
 use Rattle.frame_text.specs.Digits.{spelled}
@@ -52,9 +51,6 @@ unfolding over
 spelled-none l a n z =
     let e : 2 * a + 2 * n ≡ 2 * a = omega arith in
     rw e (sym (ap (_++ drop (2 * a) l) (append-nil (take (2 * a) l)) ∙ take-append-drop (2 * a) l))
-
-pub spelled-long : (l : List ℕ) (a n : ℕ) (bs : List ℕ) → 2 * (a + n) ≤ length l → length bs ≡ n → length (spelled l a n bs) ≡ length l
-spelled-long l a n bs h e = length-over l (2 * a) (2 * n) (hex bs) (omega arith) (omega (arith, hex-long bs))
 
 -- the two digits of a byte in front
 pub spelled-before : (l : List ℕ) (a n b : ℕ) (bs : List ℕ) → 2 * (a + 1) ≤ length l

@@ -6,10 +6,10 @@ use mathlib.Core.List.{List}
 use borrow.Author.Tests.{not-false}
 use Rattle.model.specs.Refuse.{Call}
 use Rattle.survey.specs.declared.Findings.{Findings}
-use Rattle.survey.specs.Surveyed.{Surveyed}
+use Rattle.survey.specs.Contracts.{Surveyed}
 use Rattle.index_promise.specs.declared.BatchAnswer.the-variants as Batch
 use Rattle.index_promise.specs.Promise.{fails, Batches}
-use Rattle.index_known.specs.Knows.{Knows}
+use Rattle.index_known.specs.Contracts.{Knows}
 use Rattle.index_look.proofs.Keeps.{unsound, sound}
 
 module _ {l : List ℕ} {f : Findings} (s : Surveyed l f) where
@@ -19,4 +19,4 @@ module _ {l : List ℕ} {f : Findings} (s : Surveyed l f) where
   pub found-known : not (f .sound) ≡ false → Knows l (record { settings = f .settings; height = f .height; spare = f .spare })
   found-known e =
       let t : f .sound ≡ true = not-false (f .sound) e in
-      record { sound = sound s e; settings = s .settings t; height = s .height t; spared = s .spared t }
+      record { pool = record { sound = sound s e; own = s .settings t; tall = s .height t }; spared = s .spared t }

@@ -6,7 +6,7 @@ use mathlib.Core.List.{List}
 use Rattle.model.specs.declared.PoolSettings.{PoolSettings}
 use Rattle.model.specs.Answer.{done, refused}
 use Rattle.model.proofs.Answers.{told-no}
-use Rattle.tree.specs.Opening.{Opened}
+use Rattle.tree.specs.Contracts.{Opened}
 use Rattle.index_promise.specs.declared.OpenAnswer.the-variants as Open
 use Rattle.index_promise.specs.Promise.{holds, fails, _leaving_, Opens}
 

@@ -4,7 +4,6 @@ use mathlib.Core.Bool.{Bool, cond}
 use mathlib.Core.List.{List, []}
 use lib.ListN.{getD}
 use Rattle.model.specs.declared.PoolSettings.{PoolSettings}
-use Rattle.model.specs.declared.Reference.{Reference}
 use Rattle.model.specs.declared.Operation.{Operation}
 use Rattle.model.specs.declared.Operation.the-variants.{SetEach}
 use Rattle.model.specs.declared.Bound.{Bound}
@@ -22,15 +21,13 @@ use Rattle.frame_text.specs.declared.Kind.the-variants.{Leaf, Interior}
 use Rattle.frame_text.specs.declared.FrameEntry.{FrameEntry}
 use Rattle.frame_text.specs.declared.Contents.{Contents}
 use Rattle.frame_text.specs.Contents.{ofEntry, ofBranch}
+use Rattle.model.specs.Plain.{referenceFor}
 use Rattle.index_c_given.specs.Places.{places}
 
 abbrev pub settingsFor : ℕ → ℕ → ℕ → PoolSettings
 settingsFor nodes order minimum = record { nodes = nodes; order = order; minimum = minimum }
 
 -- BATCHES
-
-abbrev pub referenceFor : ℕ → ℕ → Reference
-referenceFor place size = record { place = place; size = size }
 
 abbrev pub expectationFor : Bool → ℕ → ℕ → Expectation
 expectationFor holds place size = cond holds (Holds (referenceFor place size)) Absent

@@ -1,2 +1,2 @@
--- `Knows` says what is known of a pool.
-pub mod Knows
+-- `Contracts` says what is known of a pool.
+pub mod Contracts

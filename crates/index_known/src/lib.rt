@@ -2,7 +2,7 @@
 // pool once.
 ghost use Rattle.model.specs.Refuse.{call};
 ghost use Rattle.index_promise.specs.Promise.{Batches};
-ghost use Rattle.index_known.specs.Knows.{Knows};
+ghost use Rattle.index_known.specs.Contracts.{Knows};
 use batch_root::Root;
 use index_promise::BatchAnswer;
 use index_refuse::batch_refusal;

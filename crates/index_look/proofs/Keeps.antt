@@ -15,11 +15,12 @@ use borrow.Author.Tests.{not-true, not-false}
 use Rattle.model.proofs.Answers.{told-no}
 use Rattle.tree.specs.Pool.{SoundPool, indexOf}
 use Rattle.survey.specs.declared.Findings.{Findings}
-use Rattle.survey.specs.Surveyed.{Surveyed}
+use Rattle.survey.specs.Contracts.{Surveyed}
 use Rattle.look_output.specs.declared.Listed.{Listed}
 use Rattle.look_output.specs.declared.Scanned as Told
 use Rattle.look_output.specs.Output.{roomIn}
-use Rattle.look.specs.Calls.{InPool, Written}
+use Rattle.tree.specs.Contracts.{InPool}
+use Rattle.look.specs.Contracts.{Written}
 use Rattle.frame_text.specs.declared.WriteAnswer.{WriteAnswer}
 use Rattle.frame_text.specs.declared.WriteAnswer.the-variants as Write
 use Rattle.frame_text.specs.Answers.{lengthIn, lineAfter}

@@ -1,5 +1,5 @@
 // The calls that leave the pool as it is. Each tests the pool, or refuses, and then looks.
-ghost use Rattle.look.specs.Calls.{requestFor};
+ghost use Rattle.model.specs.Look.{requestFor};
 ghost use Rattle.index_promise.specs.Promise.{Totalling, Gets, Scans, Frames};
 use frame_text::WriteAnswer;
 use index_promise::GetAnswer;

@@ -10,12 +10,12 @@ use Rattle.model.specs.Tree.{Index}
 use Rattle.model.specs.Refuse.{Call, isEach, isRemove, treeRefusal, refusal}
 
 -- r is the refusal of the batch c, whatever index has this height and so many unused nodes
-abbrev pub Refuses : Settings → ℕ → ℕ → Call → ℕ → Type 0
-Refuses st height unused c r = (x : Index) → x .height ≡ height → length (x .unused) ≡ unused → r ≡ refusal st c x
+abbrev pub BatchRefused : Settings → ℕ → ℕ → Call → ℕ → Type 0
+BatchRefused st height unused c r = (x : Index) → x .height ≡ height → length (x .unused) ≡ unused → r ≡ refusal st c x
 
 -- r is the tree's refusal of any batch of n keys by this operation, whatever index has this height and so many unused nodes
-abbrev pub TreeRefuses : ℕ → ℕ → Operation → ℕ → ℕ → Type 0
-TreeRefuses height unused op n r =
+abbrev pub TreeRefused : ℕ → ℕ → Operation → ℕ → ℕ → Type 0
+TreeRefused height unused op n r =
     (c : Call) (x : Index) → c .operation ≡ op → length (c .keys) ≡ n → x .height ≡ height → length (x .unused) ≡ unused → r ≡ treeRefusal c x
 
 -- the references of a SetEach and n keys differ in number

@@ -2,7 +2,7 @@
 ghost use Prim.Native.Nat.{_≤_};
 ghost use Rattle.model.specs.Refuse.{call};
 ghost use Rattle.model.specs.Demands.{ReferenceFits, OperationFits};
-ghost use Rattle.index_refuse.specs.Refusals.{Refuses};
+ghost use Rattle.index_refuse.specs.Refusals.{BatchRefused};
 
 mod call; // 3 to 5, which look at the call alone
 mod room; // 6 and 7, which look at the tree
@@ -26,7 +26,7 @@ pub fn batch_refusal(
     op: Operation,
 ) -> u32
     requires { ⌜ st .order ≤ 32 ⌝ }
-    ensures { λ r. ⌜ Refuses st height unused (call op (now (places .entry)) (now (sizes .entry)) (now (keys .entry))) r ⌝ }
+    ensures { λ r. ⌜ BatchRefused st height unused (call op (now (places .entry)) (now (sizes .entry)) (now (keys .entry))) r ⌝ }
 {
     let n = call_refusal(st, keys, places, sizes, op);
     if n != 0 {

@@ -2,13 +2,13 @@
 ghost use mathlib.Core.Path.{_≡_};
 ghost use Prim.Native.Nat.{_≤_};
 ghost use Rattle.model.specs.Refuse as Model;
-ghost use Rattle.index_refuse.specs.Refusals.{TreeRefuses, exempts};
+ghost use Rattle.index_refuse.specs.Refusals.{TreeRefused, exempts};
 use model::Operation;
 
 // The first of 6 and 7 that applies to a batch of `n` keys on an index of this height with so many unused nodes; 0 where none does.
 pub fn tree_refusal(height: usize, unused: usize, n: usize, op: Operation) -> u32
     requires { ⌜ n ≤ 32 ⌝ }
-    ensures { λ r. ⌜ TreeRefuses height unused op n r ⌝ }
+    ensures { λ r. ⌜ TreeRefused height unused op n r ⌝ }
 {
     if exempt(op, n) {
         return 0;

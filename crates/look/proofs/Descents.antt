@@ -19,8 +19,10 @@ use Rattle.slots_find.specs.declared.Found.the-variants.{At, Before}
 use Rattle.slots_raw.specs.Slots.{blank}
 use Rattle.slots.specs.Nodes.{nodes, rowsAt}
 use Rattle.slots.specs.Nodes as S
-use Rattle.slots_find.specs.Search.{keyAt, pick, below, findRow, Within, Sought}
+use Rattle.slots_find.specs.Search.{keyAt, pick, below, findRow}
+use Rattle.slots_find.specs.Contracts.{Within, Sought}
 use Rattle.slots_find.specs.Search as R
+use Rattle.slots_find.specs.Contracts as C
 use Rattle.model.specs.declared.Entry.{Entry}
 use Rattle.model.specs.declared.Settings.{Settings}
 use Rattle.model.specs.Lists.{All, none, one}
@@ -38,7 +40,7 @@ use Rattle.tree.proofs.Keys.{rows-ascend, entries-from}
 use Rattle.tree.proofs.SoundHolds.{slot-read}
 use Rattle.look_output.specs.Output.{Page, enlistAll}
 use Rattle.tree_node.specs.Ask.{childFor, Chosen}
-use Rattle.look.specs.Lookup.{ToDescend, Led}
+use Rattle.look.specs.Contracts.{ToDescend, Led}
 use Rattle.look_output.proofs.Outputs.{enlist-append}
 use Rattle.tree.proofs.Children.{at-map, held-at, child-held}
 
@@ -49,7 +51,7 @@ module _ (st : Settings) (W : List ℕ) (h s : ℕ) (k : ToDescend st W h s) whe
   rows-are = ap (λ (t : ℕ). rowsAt st W t) (sym (slot-read (nodes st W) h s)) ∙ ap (λ (n : S.Node). n .rows) (all-head (k .tree))
 
   -- so a node can be searched
-  pub grown-sorted : R.Sorted st W s
+  pub grown-sorted : C.ToSearch st W s
   grown-sorted =
       let at = held-at st W h s (k .pool) (k .tree) in
       record {

@@ -21,7 +21,8 @@ use Rattle.model.proofs.Lists.{all-head}
 use Rattle.model.proofs.Layers.{handed-root}
 use Rattle.model.proofs.Scans.{openings-few, entering-thin, openings-law}
 use Rattle.tree.specs.Bridge.{nodeFor, treeAt}
-use Rattle.tree.specs.Sums.{sumRows, Sums, ToWeigh}
+use Rattle.tree.specs.Sums.{sumRows, Sums}
+use Rattle.tree.specs.Contracts.{ToWeigh, InPool}
 use Rattle.tree.specs.Pool.{givenIn, settingsIn, nodesIn, indexOf}
 use Rattle.tree.proofs.Sums.{rows-total, sums-fit}
 use Rattle.tree.proofs.Few.{used-few, entries-most}
@@ -30,9 +31,9 @@ use Rattle.tree.proofs.SoundHolds.{slot-read}
 use Rattle.look_output.specs.declared.Listed.{Listed}
 use Rattle.look_output.specs.declared.Scanned.{Scanned}
 use Rattle.look_output.specs.Output.{roomIn, page, enlistAll, freshPage}
-use Rattle.look_scan.specs.Walk.{Walk, walkAt, visitAll, ToScan}
-use Rattle.look.specs.Lookup.{ToDescend}
-use Rattle.look.specs.Calls.{InPool, Written}
+use Rattle.look_scan.specs.Walk.{Walk, walkAt, visitAll}
+use Rattle.look_scan.specs.Contracts.{ToScan}
+use Rattle.look.specs.Contracts.{ToDescend, Written}
 use Rattle.look_output.proofs.Outputs.{Shows, shows-none, shows-all}
 use Rattle.look_scan.proofs.Visits.{visits-show, visits-count}
 

@@ -1,3 +1,2 @@
--- `Calls` says what the calls promise; `Lookup` is of a key's way down.
-pub mod Lookup
-pub mod Calls
+-- `Contracts` has what the calls ask and promise.
+pub mod Contracts

@@ -2,11 +2,12 @@
 // has read them when it tested the pool.
 ghost use mathlib.Core.Path.{_≡_};
 ghost use Rattle.model.specs.Tree.{totalsOf};
-ghost use Rattle.model.specs.Look.{getAll};
+ghost use Rattle.model.specs.Look.{getAll, requestFor};
 ghost use Rattle.model.specs.Look as look;
 ghost use Rattle.tree.specs.Pool.{indexOf};
 ghost use Rattle.look_output.specs.Output.{roomIn};
-ghost use Rattle.look.specs.Calls.{InPool, Written, requestFor};
+ghost use Rattle.tree.specs.Contracts.{InPool};
+ghost use Rattle.look.specs.Contracts.{Written};
 use crate::lookup::get_keys;
 use look_output::Listed;
 use look_output::Scanned;

@@ -11,7 +11,7 @@ ghost use Rattle.model.specs.Plain.{held};
 ghost use Rattle.model.specs.Look.{found, present};
 ghost use Rattle.tree.specs.Bridge.{treeAt};
 ghost use Rattle.look_output.specs.Output.{page, enlistAll, freshPage};
-ghost use Rattle.look.specs.Lookup.{ToDescend, Led};
+ghost use Rattle.look.specs.Contracts.{ToDescend, Led};
 use look_output::Listed;
 use look_output::list_row;
 use model::Settings;

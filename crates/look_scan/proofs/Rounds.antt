@@ -17,7 +17,8 @@ use Rattle.model.specs.declared.Request.{Request}
 use Rattle.model.specs.Look.{entered, openings}
 use Rattle.tree.specs.Bridge.{rowFor, childOf, Holds, treeAt}
 use Rattle.look_output.specs.declared.Scanned.{Scanned}
-use Rattle.look_scan.specs.Walk.{rowEnters, goesOn, placeIn, Walk, walkAt, visitAll, openingsOf, ToScan, ToEnter}
+use Rattle.look_scan.specs.Walk.{rowEnters, goesOn, placeIn, Walk, walkAt, visitAll, openingsOf}
+use Rattle.look_scan.specs.Contracts.{ToScan, ToEnter}
 use Rattle.tree.proofs.Children.{child-row, child-held}
 use Rattle.look_scan.proofs.Visits.{restOf, rest-all, rest-next, rest-end, visit-append, visit-ended, visit-few, inner-visited}
 

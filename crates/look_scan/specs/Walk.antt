@@ -1,13 +1,10 @@
 -- A scan's walk: what it asks of rows, and what the nodes that it opens add to the output, one after the other. Assumes nothing.
-use Prim.Native.Nat.{ℕ, suc, _+_, _-_, _*_, _≤_, _<_}
-use mathlib.Core.Path.{_≡_}
-use mathlib.Core.Bool.{Bool, true, false, cond}
+use Prim.Native.Nat.{ℕ, suc, _+_, _-_}
+use mathlib.Core.Bool.{Bool, true, cond}
 use mathlib.Core.List.{List, [], _∷_, map}
-use lib.ListN.{length}
 use Rattle.slots_raw.specs.declared.Row.{Row}
-use Rattle.slots.specs.Nodes.{nodes, Held}
+use Rattle.slots.specs.Nodes.{nodes}
 use Rattle.model.specs.declared.Entry.{Entry}
-use Rattle.model.specs.declared.Settings.{Settings}
 use Rattle.model.specs.declared.Bound.{Bound}
 use Rattle.model.specs.declared.Direction.{Direction}
 use Rattle.model.specs.declared.Direction.the-variants.{Up, Down}
@@ -15,7 +12,7 @@ use Rattle.model.specs.Lists.{concat, keep}
 use Rattle.model.specs.Tree.{Tree}
 use Rattle.model.specs.declared.Request.{Request}
 use Rattle.model.specs.Look.{ends, enters, entered, openings}
-use Rattle.tree.specs.Bridge.{rowFor, childOf, childTotals, Holds, treeAt}
+use Rattle.tree.specs.Bridge.{childTotals}
 use Rattle.look_output.specs.declared.Scanned.{Scanned}
 use Rattle.look_output.specs.Output.{Page, page, enlistAll}
 
@@ -38,10 +35,6 @@ abbrev pub placeIn : Direction → ℕ → ℕ → ℕ
 placeIn Up n j = j
 placeIn Down n j = n - 1 - j
 
-pub record PlaceIn (q : Request) (n j i : ℕ) : Type 0 where
-  pub is : i ≡ placeIn (q .direction) n j
-  pub inside : i < n
-
 -- WHAT A WALK ADDS
 
 -- an output, and the nodes opened so far
@@ -63,22 +56,3 @@ visitAll room (es ∷ nodes) w = visitAll room nodes (visit room es w)
 -- the openings of some children, as `openings` has them
 abbrev pub openingsOf : Request → (h : ℕ) → List (Tree h) → List (List Entry)
 openingsOf q h cs = concat (map (openings q h) (keep (entered q (suc h)) cs))
-
--- WHAT THE WALK ASKS of its output: there is room for so many entries, the listing has not ended, and the nodes opened can be counted
-pub record Open (out : List ℕ) (room : ℕ) (w : Scanned) (nodes : List (List Entry)) : Type 0 where
-  pub fits : 24 * room ≤ length out
-  pub fresh : w .more ≡ false
-  pub few : w .opened + length nodes ≤ 16384
-
--- .. and of the tree: the nodes hold it
-pub record ToScan (st : Settings) (W : List ℕ) (h s : ℕ) (q : Request) (out : List ℕ) (room : ℕ) (w : Scanned) : Type 0 where
-  pub held : Held st W
-  pub tree : Holds (nodes st W) h (treeAt (nodes st W) h s)
-  pub ready : Open out room w (openings q h (treeAt (nodes st W) h s))
-
--- the same of the child that a row names: the row is right
-pub record ToEnter (st : Settings) (W : List ℕ) (h : ℕ) (r : Row) (q : Request) (out : List ℕ) (room : ℕ) (w : Scanned) : Type 0 where
-  pub held : Held st W
-  pub tree : Holds (nodes st W) h (treeAt (nodes st W) h (childOf r))
-  pub row : r ≡ rowFor (suc h) (treeAt (nodes st W) h (childOf r))
-  pub ready : Open out room w (openingsOf q h (treeAt (nodes st W) h (childOf r) ∷ []))

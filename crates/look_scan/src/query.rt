@@ -4,7 +4,8 @@ ghost use Prim.Native.Nat.{_<_};
 ghost use lib.Dec.{leb};
 ghost use Rattle.model.specs.Look.{due, least};
 ghost use Rattle.tree.specs.Bridge.{entryOf};
-ghost use Rattle.look_scan.specs.Walk.{rowEnters, goesOn, PlaceIn};
+ghost use Rattle.look_scan.specs.Walk.{rowEnters, goesOn};
+ghost use Rattle.look_scan.specs.Contracts.{Placed};
 use model::Direction;
 use model::Request;
 use slots_raw::Row;
@@ -56,7 +57,7 @@ pub fn goes_on(q: Request, key: u64) -> bool
 // The row that a scan comes to after `j` others, of `n`.
 pub fn place_in(q: Request, n: usize, j: usize) -> usize
     requires { ⌜ j < n ⌝ }
-    ensures { λ r. ⌜ PlaceIn q n j r ⌝ }
+    ensures { λ r. ⌜ Placed q n j r ⌝ }
 {
     let direction = q.direction;
     match direction {

@@ -133,9 +133,6 @@ module _ (st : Settings) (lim : InLimits st) where
 abbrev Spent : ℕ → ℕ → ℕ → ℕ → ℕ → Type 0
 Spent h n m a b = a + m * h ≤ b + n * h
 
-needed-leaf : (n : ℕ) → needed n 1 ≡ n * 2 + 4
-needed-leaf n = refl
-
 needed-is : (h n : ℕ) → needed n (suc (suc h)) ≡ n * suc (suc h) + 4
 needed-is h n = ap (λ (m : ℕ). n * m + 4) (larger h)
   where
@@ -171,9 +168,6 @@ Headroom x ts = (x .height ≤ 6) ⊎ ((x .height ≤ 7) × Removing ts)
 
 no-tasks : {ts : List Task} → ts ≡ [] → Removing ts
 no-tasks e = rw e none
-
-no-headroom : (y : Index) (ts : List Task) → y .height ≤ 7 → ts ≡ [] → Headroom y ts
-no-headroom y ts le e = inr (le, no-tasks e)
 
 module _ (st : Settings) (lim : InLimits st) where
   -- ONE CALL of the root: what it is handed, what it makes of the root, the index once its result is settled, and what it owes

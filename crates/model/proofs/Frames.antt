@@ -305,12 +305,6 @@ branch-coding =
 
 -- FRAMES
 
-pub leaf-line-long : (es : List Entry) → length (lineOf (leaf es)) ≡ 2 + 40 * length es
-leaf-line-long es = omega (arith, hex-long (frameBytes (leaf es)), entries-long leaf-coding es)
-
-pub interior-line-long : (bs : List Branch) → length (lineOf (interior bs)) ≡ 2 + 56 * length bs
-interior-line-long bs = omega (arith, hex-long (frameBytes (interior bs)), entries-long branch-coding bs)
-
 pub frame-small : (f : Frame) → Bytes (frameBytes f)
 frame-small (leaf es) = let h : 1 < 256 = omega arith in one h (entries-small leaf-coding es)
 frame-small (interior bs) = let h : 0 < 256 = omega arith in one h (entries-small branch-coding bs)

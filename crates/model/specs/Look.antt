@@ -69,6 +69,10 @@ figure t = t .size
 abbrev pub Choice : Type 0
 Choice = (h : ℕ) → List (Item h) → List (Item h)
 
+-- the request of a range, a direction and a sift
+abbrev pub requestFor : Bound → Bound → Direction → Sift → Request
+requestFor start end direction sift = record { start = start; end = end; direction = direction; sift = sift }
+
 module _ (q : Request) where
   -- a live entry in range, of size at least s
   abbrev pub due : Entry → Bool

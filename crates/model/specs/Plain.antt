@@ -96,6 +96,9 @@ entryFor k r = record { key = k; place = r .place; size = r .size }
 abbrev pub referenceOf : Entry → Reference
 referenceOf e = record { place = e .place; size = e .size }
 
+abbrev pub referenceFor : ℕ → ℕ → Reference
+referenceFor place size = record { place = place; size = size }
+
 -- the entries below k, and those from k on
 abbrev pub below : ℕ → List Entry → List Entry
 below k [] = []

@@ -11,10 +11,11 @@ use lib.Seq.{getD-set-same, getD-set-other, set-getD, set-set, take-length, drop
 use Rattle.model.specs.declared.Settings.{Settings}
 use Rattle.slots_raw.specs.declared.Row.{Row}
 use Rattle.slots_raw.specs.Over.{over, part}
-use Rattle.slots_raw.specs.Slots.{blank, chunks, width, headLen, Raw, rawOf, slots, rawAt, putCells, putHead}
-use Rattle.slots_raw.specs.Contracts.{Wrote}
+use Rattle.slots_raw.specs.Slots.{blank, chunks, width, headLen, Raw, rawOf, slots, rawAt}
+use Rattle.slots_write.specs.Puts.{putCells, putHead}
+use Rattle.slots_write.specs.Contracts.{SlotsPut}
 use Rattle.slots.specs.Nodes.{Node, unused, nodeOf, nodes, nth, rowsAt, putRows, putKind, pad, rawFor, Canon, Held, putIn, without, put2, withRows}
-use Rattle.slots.specs.Contracts.{Now}
+use Rattle.slots.specs.Contracts.{NodesPut}
 use Rattle.slots_raw.proofs.Over.{map-set}
 use Rattle.slots_raw.proofs.Chunks.{length-chunks}
 use Rattle.slots.proofs.Pads.{take-pad, part-pad, length-putIn, length-without, opening, opened, closing, closed, replaced}
@@ -96,8 +97,8 @@ module _ (st : Settings) (W₀ W : List ℕ) (s : ℕ) (r : Raw) (e : slots st W
       ap (λ (l : List Raw). getD l t none) e ∙ getD-set-other (slots st W₀) s t r none ne
 
 -- a slot that is written twice is written once
-pub again : (f : Raw → Raw) (st : Settings) (W₀ W₁ W₂ : List ℕ) (s : ℕ) (r : Raw) → s < st .nodes → Wrote st W₀ W₁ (set (slots st W₀) s r)
-    → Wrote st W₁ W₂ (set (slots st W₁) s (f (rawAt st W₁ s))) → Wrote st W₀ W₂ (set (slots st W₀) s (f r))
+pub again : (f : Raw → Raw) (st : Settings) (W₀ W₁ W₂ : List ℕ) (s : ℕ) (r : Raw) → s < st .nodes → SlotsPut st W₀ W₁ (set (slots st W₀) s r)
+    → SlotsPut st W₁ W₂ (set (slots st W₁) s (f (rawAt st W₁ s))) → SlotsPut st W₀ W₂ (set (slots st W₀) s (f r))
 again f st W₀ W₁ W₂ s r h a b = record {
   shape = b .shape;
   is = b .is ∙ ap (λ (q : Raw). set (slots st W₁) s (f q)) (raw-same st W₀ W₁ s r (a .is) h)
@@ -112,8 +113,8 @@ each-again st W₀ W s n h held e g t (yes q) =
 each-again st W₀ W s n h held e g t (no q) = rw (raw-other st W₀ W s (rawFor (st .rows) n) e t q) (held .each t)
 
 -- a slot that is written as a node is written is that node
-pub settle : (st : Settings) (W₀ W : List ℕ) (s : ℕ) (r : Raw) (n : Node) → s < st .nodes → Held st W₀ → Wrote st W₀ W (set (slots st W₀) s r)
-    → r ≡ rawFor (st .rows) n → length (n .rows) ≤ st .rows → Now st W₀ W (set (nodes st W₀) s n)
+pub settle : (st : Settings) (W₀ W : List ℕ) (s : ℕ) (r : Raw) (n : Node) → s < st .nodes → Held st W₀ → SlotsPut st W₀ W (set (slots st W₀) s r)
+    → r ≡ rawFor (st .rows) n → length (n .rows) ≤ st .rows → NodesPut st W₀ W (set (nodes st W₀) s n)
 unfolding nodes
 settle st W₀ W s r n h held w q g =
     let raw = rawFor (st .rows) n in
@@ -131,8 +132,8 @@ abbrev rewritten : Settings → List ℕ → ℕ → ℕ → ℕ → List Row �
 rewritten st W s k c l = set (slots st W) s (record { kind = k; count = c; cells = l })
 
 module _ (st : Settings) (W₀ W : List ℕ) (s k n : ℕ) (h : s < st .nodes) (held : Held st W₀) (ek : k ≡ nth (nodes st W₀) s .kind) (en : n ≡ length (rowsAt st W₀ s)) where
-  rows-now : (cells : List Row) (c : ℕ) (l : List Row) → Wrote st W₀ W (rewritten st W₀ s k c cells) → cells ≡ pad (st .rows) l → c ≡ length l
-      → c ≤ st .rows → Now st W₀ W (putRows (nodes st W₀) s l)
+  rows-now : (cells : List Row) (c : ℕ) (l : List Row) → SlotsPut st W₀ W (rewritten st W₀ s k c cells) → cells ≡ pad (st .rows) l → c ≡ length l
+      → c ≤ st .rows → NodesPut st W₀ W (putRows (nodes st W₀) s l)
   unfolding putRows rawFor
   rows-now cells c l w e ec g =
       settle st W₀ W s (record { kind = k; count = c; cells = cells }) (record { kind = nth (nodes st W₀) s .kind; rows = l }) h held w
@@ -140,7 +141,7 @@ module _ (st : Settings) (W₀ W : List ℕ) (s k n : ℕ) (h : s < st .nodes) (
 
   -- a gap is opened and filled
   pub opened-now : (i a : ℕ) (new : List Row) → i ≤ n → length new ≡ a → n + a ≤ st .rows
-      → Wrote st W₀ W (rewritten st W₀ s k (n + a) (opening n (rawAt st W₀ s .cells) i a new)) → Now st W₀ W (putRows (nodes st W₀) s (putIn (rowsAt st W₀ s) i new))
+      → SlotsPut st W₀ W (rewritten st W₀ s k (n + a) (opening n (rawAt st W₀ s .cells) i a new)) → NodesPut st W₀ W (putRows (nodes st W₀) s (putIn (rowsAt st W₀ s) i new))
   opened-now i a new hi ea g w =
       let l = rowsAt st W₀ s in
       rows-now (opening n (rawAt st W₀ s .cells) i a new) (n + a) (putIn l i new) w
@@ -149,7 +150,7 @@ module _ (st : Settings) (W₀ W : List ℕ) (s k n : ℕ) (h : s < st .nodes) (
 
   -- rows are taken out
   pub closed-now : (i a : ℕ) → i + a ≤ n
-      → Wrote st W₀ W (rewritten st W₀ s k (n - a) (closing n (rawAt st W₀ s .cells) i a)) → Now st W₀ W (putRows (nodes st W₀) s (without (rowsAt st W₀ s) i a))
+      → SlotsPut st W₀ W (rewritten st W₀ s k (n - a) (closing n (rawAt st W₀ s .cells) i a)) → NodesPut st W₀ W (putRows (nodes st W₀) s (without (rowsAt st W₀ s) i a))
   closed-now i a hi w =
       let l = rowsAt st W₀ s in
       let fits : length (rowsAt st W₀ s) ≤ st .rows = fits-node st W₀ s held in
@@ -158,15 +159,15 @@ module _ (st : Settings) (W₀ W : List ℕ) (s k n : ℕ) (h : s < st .nodes) (
       (omega (arith, length-without l i a (omega arith))) (omega arith)
 
   -- the kind is set
-  pub kind-now : (k′ : ℕ) → Wrote st W₀ W (putHead st W₀ s k′ n) → Now st W₀ W (putKind (nodes st W₀) s k′)
+  pub kind-now : (k′ : ℕ) → SlotsPut st W₀ W (putHead st W₀ s k′ n) → NodesPut st W₀ W (putKind (nodes st W₀) s k′)
   unfolding putKind rawFor
   kind-now k′ w =
       settle st W₀ W s (record { kind = k′; count = n; cells = rawAt st W₀ s .cells }) (record { kind = k′; rows = rowsAt st W₀ s }) h held w
       (λ j. record { kind = k′; count = en j; cells = cells-node st W₀ s held j }) (fits-node st W₀ s held)
 
   -- a row is set
-  pub row-now : (i : ℕ) (r : Row) → i < n → Wrote st W₀ W (putCells st W₀ s (over (rawAt st W₀ s .cells) i 1 (r ∷ [])))
-      → Now st W₀ W (putRows (nodes st W₀) s (set (rowsAt st W₀ s) i r))
+  pub row-now : (i : ℕ) (r : Row) → i < n → SlotsPut st W₀ W (putCells st W₀ s (over (rawAt st W₀ s .cells) i 1 (r ∷ [])))
+      → NodesPut st W₀ W (putRows (nodes st W₀) s (set (rowsAt st W₀ s) i r))
   unfolding putRows rawFor
   row-now i r hi w =
       let q = rawAt st W₀ s in
@@ -182,11 +183,11 @@ module _ (st : Settings) (W₀ W : List ℕ) (s k n : ℕ) (h : s < st .nodes) (
 
 -- ---- a change of nodes, and another
 
-pub then : (f : List Node → List Node) (st : Settings) (W₀ W₁ W₂ : List ℕ) (ns : List Node) → Now st W₀ W₁ ns → Now st W₁ W₂ (f (nodes st W₁))
-    → Now st W₀ W₂ (f ns)
+pub then : (f : List Node → List Node) (st : Settings) (W₀ W₁ W₂ : List ℕ) (ns : List Node) → NodesPut st W₀ W₁ ns → NodesPut st W₁ W₂ (f (nodes st W₁))
+    → NodesPut st W₀ W₂ (f ns)
 then f st W₀ W₁ W₂ ns a b = record { held = b .held; is = b .is ∙ ap f (a .is); header = b .header ∙ a .header }
 
-pub become : (st : Settings) (W₀ W : List ℕ) (ns ns′ : List Node) → Now st W₀ W ns → ns ≡ ns′ → Now st W₀ W ns′
+pub become : (st : Settings) (W₀ W : List ℕ) (ns ns′ : List Node) → NodesPut st W₀ W ns → ns ≡ ns′ → NodesPut st W₀ W ns′
 become st W₀ W ns ns′ a e = record { held = a .held; is = a .is ∙ e; header = a .header }
 
 -- another node is as it was, after a change of rows or of a kind

@@ -11,27 +11,27 @@ use Rattle.model.specs.declared.Settings.{Settings}
 use Rattle.slots_raw.specs.declared.Row.{Row}
 use Rattle.slots_raw.specs.Over.{part}
 use Rattle.slots.specs.Nodes.{Node, unused, nodes, nth, rowsAt, putRows, putKind, putIn, without, put2, withRows, splitNodes, backNodes, forwardNodes, joinNodes}
-use Rattle.slots.specs.Contracts.{Now}
+use Rattle.slots.specs.Contracts.{NodesPut}
 use Rattle.slots.proofs.Pads.{last-part}
 use Rattle.slots.proofs.Nodes.{length-nodes, nth-rows, nth-kind, nth-same, nth-put, rows-rows, at-end, first-out, last-out, first-part}
 
 -- ---- what another node keeps, over the pool
 
 module _ (st : Settings) (W₀ W : List ℕ) (s t : ℕ) where
-  pub kept-rows : (l : List Row) → Now st W₀ W (putRows (nodes st W₀) t l) → s ≢ t → rowsAt st W s ≡ rowsAt st W₀ s
+  pub kept-rows : (l : List Row) → NodesPut st W₀ W (putRows (nodes st W₀) t l) → s ≢ t → rowsAt st W s ≡ rowsAt st W₀ s
   kept-rows l w ne = ap (λ (ns : List Node). nth ns s .rows) (w .is) ∙ ap (λ (n : Node). n .rows) (nth-rows (nodes st W₀) s t l ne)
 
-  pub kept-kind : (k : ℕ) → Now st W₀ W (putKind (nodes st W₀) t k) → s ≢ t → rowsAt st W s ≡ rowsAt st W₀ s
+  pub kept-kind : (k : ℕ) → NodesPut st W₀ W (putKind (nodes st W₀) t k) → s ≢ t → rowsAt st W s ≡ rowsAt st W₀ s
   kept-kind k w ne = ap (λ (ns : List Node). nth ns s .rows) (w .is) ∙ ap (λ (n : Node). n .rows) (nth-kind (nodes st W₀) s t k ne)
 
-  pub kept-same : (k : ℕ) → Now st W₀ W (putKind (nodes st W₀) t k) → t < st .nodes → rowsAt st W t ≡ rowsAt st W₀ t
+  pub kept-same : (k : ℕ) → NodesPut st W₀ W (putKind (nodes st W₀) t k) → t < st .nodes → rowsAt st W t ≡ rowsAt st W₀ t
   unfolding putKind
   kept-same k w h =
       ap (λ (ns : List Node). nth ns t .rows) (w .is)
       ∙ ap (λ (n : Node). n .rows) (nth-same (nodes st W₀) t (record { kind = k; rows = rowsAt st W₀ t }) (omega (arith, length-nodes st W₀)))
 
 -- and the rows that are put are there
-pub own-rows : (st : Settings) (W₀ W : List ℕ) (s : ℕ) (l : List Row) → Now st W₀ W (putRows (nodes st W₀) s l) → s < st .nodes → rowsAt st W s ≡ l
+pub own-rows : (st : Settings) (W₀ W : List ℕ) (s : ℕ) (l : List Row) → NodesPut st W₀ W (putRows (nodes st W₀) s l) → s < st .nodes → rowsAt st W s ≡ l
 own-rows st W₀ W s l w h =
     ap (λ (ns : List Node). nth ns s .rows) (w .is) ∙ ap (λ (n : Node). n .rows) (nth-put (nodes st W₀) s l (omega (arith, length-nodes st W₀)))
 

@@ -10,19 +10,19 @@ use Rattle.slots.specs.Nodes.{Node, unused, nodes, nth, rowsAt, Held}
 
 -- ---- what contracts require
 
--- slot s is one of the pool's
-pub record At (st : Settings) (W : List ℕ) (s : ℕ) : Type 0 where
+-- node s can be read and changed: its slot is one of the pool's
+pub record ToTouch (st : Settings) (W : List ℕ) (s : ℕ) : Type 0 where
   pub held : Held st W
   pub slot : s < st .nodes
 
--- n rows from i on are rows of node s
-pub record Rows (st : Settings) (W : List ℕ) (s i n : ℕ) : Type 0 where
+-- .. and n rows of it from row i on
+pub record ToTouchRows (st : Settings) (W : List ℕ) (s i n : ℕ) : Type 0 where
   pub held : Held st W
   pub slot : s < st .nodes
   pub within : i + n ≤ length (rowsAt st W s)
 
 -- n more rows fit at place i of node s
-pub record Room (st : Settings) (W : List ℕ) (s i n : ℕ) : Type 0 where
+pub record ToPutIn (st : Settings) (W : List ℕ) (s i n : ℕ) : Type 0 where
   pub held : Held st W
   pub slot : s < st .nodes
   pub within : i ≤ length (rowsAt st W s)
@@ -64,7 +64,7 @@ pub record Counted (st : Settings) (W : List ℕ) (s r : ℕ) : Type 0 where
   pub fits : r ≤ st .rows
 
 -- W is W₀ with the nodes `ns`
-pub record Now (st : Settings) (W₀ W : List ℕ) (ns : List Node) : Type 0 where
+pub record NodesPut (st : Settings) (W₀ W : List ℕ) (ns : List Node) : Type 0 where
   pub held : Held st W
   pub is : nodes st W ≡ ns
   pub header : headIn W ≡ headIn W₀

@@ -5,7 +5,8 @@ use mathlib.Core.List.{List, [], _++_, map}
 use lib.ListN.{length, take, drop, getD, set, replicate}
 use Rattle.model.specs.declared.Settings.{Settings}
 use Rattle.slots_raw.specs.declared.Row.{Row}
-use Rattle.slots_raw.specs.Slots.{blank, Raw, slots, rawAt, Shape}
+use Rattle.slots_raw.specs.Slots.{blank, Raw, slots, rawAt}
+use Rattle.slots_raw.specs.Contracts.{Shape}
 
 -- ---- nodes
 

@@ -8,16 +8,16 @@ ghost use lib.ListN.{getD, set};
 ghost use Rattle.words.specs.Words.{words};
 ghost use Rattle.slots_raw.specs.Slots.{blank};
 ghost use Rattle.slots.specs.Nodes.{nodes, nth, rowsAt, putRows, putKind, putIn, without, unused};
-ghost use Rattle.slots.specs.Contracts.{Now, At, Rows, Room, Counted};
+ghost use Rattle.slots.specs.Contracts.{NodesPut, ToTouch, ToTouchRows, ToPutIn, Counted};
 use model::Settings;
 use slots_raw::Row;
-use slots_raw::raw_clear;
 use slots_raw::raw_count;
-use slots_raw::raw_head;
 use slots_raw::raw_kind;
-use slots_raw::raw_move;
-use slots_raw::raw_put;
 use slots_raw::raw_row;
+use slots_write::raw_clear;
+use slots_write::raw_head;
+use slots_write::raw_move;
+use slots_write::raw_put;
 
 // The kinds of a node: a slot that holds none, a leaf, an interior node.
 pub const UNUSED: u64 = 0;
@@ -28,7 +28,7 @@ pub const INTERIOR: u64 = 2;
 
 // The kind of node `s`.
 pub fn kind(pool: &[u8], st: Settings, s: usize) -> u64
-    requires { ⌜ At st (words (now pool)) s ⌝ }
+    requires { ⌜ ToTouch st (words (now pool)) s ⌝ }
     ensures { λ r. ⌜ r ≡ nth (nodes st (words (now (pool .entry)))) s .kind ⌝ }
 {
     raw_kind(pool, st, s)
@@ -36,7 +36,7 @@ pub fn kind(pool: &[u8], st: Settings, s: usize) -> u64
 
 // How many rows node `s` has.
 pub fn count(pool: &[u8], st: Settings, s: usize) -> usize
-    requires { ⌜ At st (words (now pool)) s ⌝ }
+    requires { ⌜ ToTouch st (words (now pool)) s ⌝ }
     ensures { λ r. ⌜ Counted st (words (now (pool .entry))) s r ⌝ }
 {
     raw_count(pool, st, s)
@@ -44,7 +44,7 @@ pub fn count(pool: &[u8], st: Settings, s: usize) -> usize
 
 // Row `i` of node `s`.
 pub fn row_at(pool: &[u8], st: Settings, s: usize, i: usize) -> Row
-    requires { ⌜ Rows st (words (now pool)) s i 1 ⌝ }
+    requires { ⌜ ToTouchRows st (words (now pool)) s i 1 ⌝ }
     ensures { λ r. ⌜ r ≡ getD (rowsAt st (words (now (pool .entry))) s) i blank ⌝ }
 {
     raw_row(pool, st, s, i)
@@ -52,8 +52,8 @@ pub fn row_at(pool: &[u8], st: Settings, s: usize, i: usize) -> Row
 
 // Sets the kind of node `s`.
 pub fn set_kind(pool: &mut [u8], st: Settings, s: usize, k: u64)
-    requires { ⌜ At st (words (now pool)) s ⌝ }
-    ensures { λ _. let W = words (now (pool .entry)) in ⌜ Now st W (words (now (pool .exit))) (putKind (nodes st W) s k) ⌝ }
+    requires { ⌜ ToTouch st (words (now pool)) s ⌝ }
+    ensures { λ _. let W = words (now (pool .entry)) in ⌜ NodesPut st W (words (now (pool .exit))) (putKind (nodes st W) s k) ⌝ }
 {
     let n = count(pool, st, s);
     raw_head(pool, st, s, k, n);
@@ -61,18 +61,18 @@ pub fn set_kind(pool: &mut [u8], st: Settings, s: usize, k: u64)
 
 // Sets row `i` of node `s`.
 pub fn set_row(pool: &mut [u8], st: Settings, s: usize, i: usize, row: Row)
-    requires { ⌜ Rows st (words (now pool)) s i 1 ⌝ }
+    requires { ⌜ ToTouchRows st (words (now pool)) s i 1 ⌝ }
     ensures { λ _. let W = words (now (pool .entry)) in
-        ⌜ Now st W (words (now (pool .exit))) (putRows (nodes st W) s (set (rowsAt st W s) i row)) ⌝ }
+        ⌜ NodesPut st W (words (now (pool .exit))) (putRows (nodes st W) s (set (rowsAt st W s) i row)) ⌝ }
 {
     raw_put(pool, st, s, i, row);
 }
 
 // Puts `row` in at place `i` of node `s`.
 pub fn insert_row(pool: &mut [u8], st: Settings, s: usize, i: usize, row: Row)
-    requires { ⌜ Room st (words (now pool)) s i 1 ⌝ }
+    requires { ⌜ ToPutIn st (words (now pool)) s i 1 ⌝ }
     ensures { λ _. let W = words (now (pool .entry)) in
-        ⌜ Now st W (words (now (pool .exit))) (putRows (nodes st W) s (putIn (rowsAt st W s) i (row ∷ []))) ⌝ }
+        ⌜ NodesPut st W (words (now (pool .exit))) (putRows (nodes st W) s (putIn (rowsAt st W s) i (row ∷ []))) ⌝ }
 {
     let n = count(pool, st, s);
     let k = kind(pool, st, s);
@@ -83,18 +83,18 @@ pub fn insert_row(pool: &mut [u8], st: Settings, s: usize, i: usize, row: Row)
 
 // Takes row `i` out of node `s`.
 pub fn remove_row(pool: &mut [u8], st: Settings, s: usize, i: usize)
-    requires { ⌜ Rows st (words (now pool)) s i 1 ⌝ }
+    requires { ⌜ ToTouchRows st (words (now pool)) s i 1 ⌝ }
     ensures { λ _. let W = words (now (pool .entry)) in
-        ⌜ Now st W (words (now (pool .exit))) (putRows (nodes st W) s (without (rowsAt st W s) i 1)) ⌝ }
+        ⌜ NodesPut st W (words (now (pool .exit))) (putRows (nodes st W) s (without (rowsAt st W s) i 1)) ⌝ }
 {
     remove_rows(pool, st, s, i, 1);
 }
 
 // Takes `a` rows out of node `s`, from row `i` on.
 pub fn remove_rows(pool: &mut [u8], st: Settings, s: usize, i: usize, a: usize)
-    requires { ⌜ Rows st (words (now pool)) s i a ⌝ }
+    requires { ⌜ ToTouchRows st (words (now pool)) s i a ⌝ }
     ensures { λ _. let W = words (now (pool .entry)) in
-        ⌜ Now st W (words (now (pool .exit))) (putRows (nodes st W) s (without (rowsAt st W s) i a)) ⌝ }
+        ⌜ NodesPut st W (words (now (pool .exit))) (putRows (nodes st W) s (without (rowsAt st W s) i a)) ⌝ }
 {
     let n = count(pool, st, s);
     let k = kind(pool, st, s);
@@ -105,8 +105,8 @@ pub fn remove_rows(pool: &mut [u8], st: Settings, s: usize, i: usize, a: usize)
 
 // Gives up slot `s`: it is unused from now on.
 pub fn release(pool: &mut [u8], st: Settings, s: usize)
-    requires { ⌜ At st (words (now pool)) s ⌝ }
-    ensures { λ _. let W = words (now (pool .entry)) in ⌜ Now st W (words (now (pool .exit))) (set (nodes st W) s unused) ⌝ }
+    requires { ⌜ ToTouch st (words (now pool)) s ⌝ }
+    ensures { λ _. let W = words (now (pool .entry)) in ⌜ NodesPut st W (words (now (pool .exit))) (set (nodes st W) s unused) ⌝ }
 {
     let n = count(pool, st, s);
     remove_rows(pool, st, s, 0, n);

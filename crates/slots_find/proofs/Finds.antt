@@ -1,20 +1,16 @@
--- The laws of `specs/Search.antt`: which rows can be searched, how many keys are below a key, what a search finds there, and what keeps the slots
--- below one in use. Assumes nothing.
+-- The laws of specs/: which rows can be searched, how many keys are below a key, and what a search finds there. Assumes nothing.
 use mathlib.Core.Path.{_≡_, ap}
-use mathlib.Core.Logic.{_≢_}
 use Prim.Native.Nat.{ℕ, zero, suc, _+_, _≤_, _<_}
 use native.Mathlib.Nat.{not-suc-le-zero, le-of-suc-le-suc}
-use native.Mathlib.Decide.{decLt, ℕ-discrete}
+use native.Mathlib.Decide.{decLt}
 use native.Mathlib.Omega.{arith}
 use mathlib.Core.List.{List, [], _∷_, map}
-use lib.ListN.{length, set}
-use lib.Seq.{set-out, getD-set-same, getD-set-other}
+use lib.ListN.{length}
 use borrow.Author.Tests.{lt-ltb, le-ltb, eq-eqb, ne-eqb}
 use Rattle.model.specs.Lists.{All, one, Ordered, cons}
 use Rattle.slots_raw.specs.declared.Row.{Row}
 use Rattle.slots_find.specs.declared.Found.the-variants.{At, Before}
-use Rattle.slots.specs.Nodes.{Node, unused, nth}
-use Rattle.slots_find.specs.Search.{keyAt, Ascending, pick, below, findRow, Below}
+use Rattle.slots_find.specs.Search.{keyAt, Ascending, pick, below, findRow}
 
 -- ---- rows that can be searched
 
@@ -73,17 +69,3 @@ found-not k l i e h g = rw (e, lt-ltb i (length l) h, ne-eqb (keyAt l i) k g)
 pub found-end : (k : ℕ) (l : List Row) (i : ℕ) → below k l ≡ i → length l ≤ i → Before i ≡ findRow k l
 unfolding findRow pick
 found-end k l i e h = rw (e, le-ltb i (length l) h)
-
--- ---- the slots below `from` are in use
-
-set-used : (ns : List Node) (t : ℕ) (n : Node) → nth ns t .kind ≢ 0 → n .kind ≢ 0 → Dec (t < length ns) → nth (set ns t n) t .kind ≢ 0
-set-used ns t n h g (yes q) = rw (getD-set-same ns t n unused q) g
-set-used ns t n h g (no q) = rw (set-out ns t n (omega arith)) h
-
-kept-used : (ns : List Node) (u t : ℕ) (n : Node) → nth ns u .kind ≢ 0 → (t ≡ u → n .kind ≢ 0) → Dec (u ≡ t) → nth (set ns t n) u .kind ≢ 0
-kept-used ns u t n h g (yes q) = rw q (set-used ns t n (rw q at h) (g (omega arith)) (decLt t (length ns)))
-kept-used ns u t n h g (no q) = rw (getD-set-other ns t u n unused q) h
-
--- and still are where a node is set: if it is one of them, to a node in use
-pub below-set : (ns : List Node) (from t : ℕ) (n : Node) → Below ns from → (t < from → n .kind ≢ 0) → Below (set ns t n) from
-below-set ns from t n b g u h = kept-used ns u t n (b u h) (λ e. g (omega arith)) (ℕ-discrete u t)

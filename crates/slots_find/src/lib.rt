@@ -3,8 +3,9 @@ ghost use mathlib.Core.Path.{_≡_};
 ghost use Prim.Native.Nat.{_≤_};
 ghost use Rattle.words.specs.Words.{words};
 ghost use Rattle.slots.specs.Nodes.{Held, nodes, rowsAt};
-ghost use Rattle.slots.specs.Contracts.{Rows};
-ghost use Rattle.slots_find.specs.Search.{keyAt, Sorted, Sought, Below, Lowest};
+ghost use Rattle.slots.specs.Contracts.{ToTouchRows};
+ghost use Rattle.slots_find.specs.Search.{keyAt};
+ghost use Rattle.slots_find.specs.Contracts.{ToSearch, Sought, Below, Lowest};
 use model::Settings;
 use slots::UNUSED;
 use slots::count;
@@ -19,7 +20,7 @@ pub enum Found {
 
 // Looks for `key` in node `s`, whose keys ascend, by halving.
 pub fn search(pool: &[u8], st: Settings, s: usize, key: u64) -> Found
-    requires { ⌜ Sorted st (words (now pool)) s ⌝ }
+    requires { ⌜ ToSearch st (words (now pool)) s ⌝ }
     ensures { λ r. ⌜ Sought (rowsAt st (words (now (pool .entry))) s) key r ⌝ }
 {
     let n = count(pool, st, s);
@@ -43,7 +44,7 @@ pub fn search(pool: &[u8], st: Settings, s: usize, key: u64) -> Found
 
 // The key of row `i` of node `s`.
 pub fn key_at(pool: &[u8], st: Settings, s: usize, i: usize) -> u64
-    requires { ⌜ Rows st (words (now pool)) s i 1 ⌝ }
+    requires { ⌜ ToTouchRows st (words (now pool)) s i 1 ⌝ }
     ensures { λ r. ⌜ r ≡ keyAt (rowsAt st (words (now (pool .entry))) s) i ⌝ }
 {
     let row = row_at(pool, st, s, i);

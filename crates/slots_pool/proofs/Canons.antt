@@ -8,11 +8,12 @@ use mathlib.Core.List.{List, [], _∷_, _++_}
 use lib.ListN.{length, take, drop, getD, replicate, take-append-drop, length-map, List·getD-map, List·getD-eq-default}
 use lib.Seq.{length-take-le}
 use Rattle.model.specs.declared.Settings.{Settings}
-use Rattle.slots_raw.specs.Slots.{chunks, rowOf, rowsOf, blank, width, headLen, slotHead, rowLen, Raw, rawOf, slots, rawAt, Shape}
+use Rattle.slots_raw.specs.Slots.{chunks, rowOf, rowsOf, blank, width, headLen, slotHead, rowLen, Raw, rawOf, slots, rawAt}
+use Rattle.slots_raw.specs.Contracts.{Shape}
 use Rattle.slots.specs.Nodes.{unused, nodeOf, nodes, nth, pad, rawFor, Canon, Held}
 use Rattle.slots_raw.proofs.Chunks.{length-chunks}
 use Rattle.slots.proofs.Pads.{drop-pad}
-use Rattle.slots.proofs.Nodes.{length-slots, node-raw, raw-node, node-back, canon-for}
+use Rattle.slots.proofs.Nodes.{length-slots, node-raw, node-back, canon-for}
 
 -- ---- one slot
 
@@ -75,10 +76,6 @@ module _ (st : Settings) (W : List ℕ) (s : ℕ) where
 
   pub zero-unused : rawAt st W s ≡ rawFor (st .rows) unused → nth (nodes st W) s ≡ unused
   zero-unused e = sym (node-raw st W s) ∙ ap nodeOf e ∙ node-back (st .rows) unused
-
-  -- in a pool in order no other slot is
-  pub unused-zero : Held st W → nth (nodes st W) s ≡ unused → rawAt st W s ≡ rawFor (st .rows) unused
-  unused-zero h e = raw-node st W s h ∙ ap (rawFor (st .rows)) e
 
 -- ---- all slots
 

@@ -10,9 +10,10 @@ use Rattle.words_runs.specs.Moves.{cleared}
 use Rattle.model.specs.declared.PoolSettings.{PoolSettings}
 use Rattle.model.specs.declared.Settings.{Settings}
 use Rattle.model.specs.Sound.{rootFor, handed, InLimits}
-use Rattle.slots_raw.specs.Slots.{width, headLen, headIn, Shape}
+use Rattle.slots_raw.specs.Slots.{width, headLen, headIn}
+use Rattle.slots_raw.specs.Contracts.{Shape}
 use Rattle.slots.specs.Nodes.{Node, leafKind, unused, nodes, nth, Held, putKind}
-use Rattle.slots.specs.Contracts.{Now}
+use Rattle.slots.specs.Contracts.{NodesPut}
 use Rattle.slots_pool.specs.Header.{layoutNumber, headerOf}
 use Rattle.slots_pool.specs.Image.{image, newNodes}
 use Rattle.slots_raw.proofs.Over.{drop-replicate}
@@ -77,7 +78,7 @@ module _ (given : PoolSettings) (W : List ℕ) (limits : InLimits (handed given)
   blank-held = blank-nodes .0
 
   -- and then a leaf in the root's slot, which is slot 0
-  pub new-words : (X : List ℕ) → Now st W X (putKind (nodes st W) (st .root) leafKind) → X ≡ headerOf given ++ image (st .rows) (newNodes (st .nodes))
+  pub new-words : (X : List ℕ) → NodesPut st W X (putKind (nodes st W) (st .root) leafKind) → X ≡ headerOf given ++ image (st .rows) (newNodes (st .nodes))
   unfolding putKind rootFor
   new-words X now =
       let e : st .nodes ≡ suc (st .nodes - 1) = omega (arith, limits .many) in

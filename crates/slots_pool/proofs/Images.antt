@@ -7,8 +7,7 @@ use native.Mathlib.Omega.{arith}
 use mathlib.Core.List.{List, [], _∷_, _++_, map}
 use lib.ListN.{length, take, drop, getD, length-append, length-drop, take-append-drop, List·getD-map}
 use lib.Seq.{length-take-le, take-at, drop-at}
-use Rattle.words.specs.Words.{words}
-use Rattle.words.proofs.Laws.{Bytes, words-injective, nil-of-length}
+use Rattle.words.proofs.Laws.{nil-of-length}
 use Rattle.model.specs.declared.PoolSettings.{PoolSettings}
 use Rattle.model.specs.declared.Settings.{Settings}
 use Rattle.model.specs.Sound.{handed, InLimits}
@@ -60,15 +59,11 @@ image-of st W h =
     let size : length W ≡ headLen + st .nodes * width (st .rows) = h .shape .size in
     ap (headIn W ++_) (image-chunks (st .rows) (st .nodes) (drop headLen W) (length-drop headLen W ∙ omega arith) (h .each)) ∙ take-append-drop headLen W
 
--- two pools with one header and the same nodes have the same words, and so the same bytes
+-- two pools with one header and the same nodes have the same words
 pub words-same : (st : Settings) (W X : List ℕ) → Held st W → Held st X → headIn W ≡ headIn X → nodes st W ≡ nodes st X → W ≡ X
 words-same st W X h g e n =
     sym (image-of st W h)
     ∙ ap (λ (l : List ℕ). l ++ image (st .rows) (nodes st W)) e ∙ ap (λ (ns : List Node). headIn X ++ image (st .rows) ns) n ∙ image-of st X g
-
-pub bytes-same : (st : Settings) (k : ℕ) (a b : List ℕ) → length a ≡ 8 * k → length b ≡ 8 * k → Bytes a → Bytes b → Held st (words a) → Held st (words b)
-    → headIn (words a) ≡ headIn (words b) → nodes st (words a) ≡ nodes st (words b) → a ≡ b
-bytes-same st k a b ea eb ha hb h g e n = words-injective k a b ea eb ha hb (words-same st (words a) (words b) h g e n)
 
 -- ---- nodes, words, and the same nodes
 

@@ -13,8 +13,8 @@ use Rattle.model.specs.declared.Settings.{Settings}
 use Rattle.model.proofs.Lists.{both-left, both-right}
 use Rattle.slots_raw.specs.Over.{part}
 use Rattle.model.specs.Answer.{Tells}
-use Rattle.slots_raw.specs.Slots.{rowsOf, blank, width, slotHead, rowLen, rawOf, rawAt, Shape}
-use Rattle.slots_raw.specs.Contracts.{Base}
+use Rattle.slots_raw.specs.Slots.{rowsOf, blank, width, slotHead, rowLen, rawOf, rawAt}
+use Rattle.slots_raw.specs.Contracts.{Shape, Based}
 use Rattle.slots.specs.Nodes.{unused, pad, rawFor}
 use Rattle.slots_pool.specs.Image.{flatRows, block}
 use Rattle.slots_raw.proofs.Over.{length-part}
@@ -63,7 +63,7 @@ raw-zeros m = ap (rawOf m) (sym (block-unused m)) ∙ raw-back m unused (omega a
 
 -- ---- the two tests
 
-module _ (st : Settings) (W : List ℕ) (s b : ℕ) (sh : Shape st W) (h : s < st .nodes) (at : Base st W s b) where
+module _ (st : Settings) (W : List ℕ) (s b : ℕ) (sh : Shape st W) (h : s < st .nodes) (at : Based st W s b) where
   -- the rows from row n on
   pub tail-tells : (n : ℕ) → n ≤ st .rows
       → Tells (allZero (take ((st .rows - n) * rowLen) (drop (b + (slotHead + n * rowLen)) W))) (drop n (rawAt st W s .cells) ≡ replicate (st .rows - n) blank)

@@ -115,16 +115,6 @@ module _ {ℓ} {A : Type ℓ} where
       ap (λ (j : ℕ). drop d (replicate j a)) s
       ∙ ap (drop d) (sym (replicate-append-replicate d (e - d) a)) ∙ drop-at (replicate d a) (replicate (e - d) a) d (length-replicate d a)
 
-  pub take-replicate : (a : A) (d e : ℕ) → d ≤ e → take d (replicate e a) ≡ replicate d a
-  take-replicate a d e h =
-      let s : e ≡ d + (e - d) = omega arith in
-      ap (λ (j : ℕ). take d (replicate j a)) s
-      ∙ ap (take d) (sym (replicate-append-replicate d (e - d) a)) ∙ take-at (replicate d a) (replicate (e - d) a) d (length-replicate d a)
-
-  pub part-replicate : (a : A) (b k m : ℕ) → b + k ≤ m → part (replicate m a) b k ≡ replicate k a
-  unfolding part
-  part-replicate a b k m h = ap (take k) (drop-replicate a b m (omega arith)) ∙ take-replicate a k (m - b) (omega arith)
-
 module _ {A B : Type 0} (f : A → B) where
   -- ---- under a map
 

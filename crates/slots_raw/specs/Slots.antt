@@ -1,11 +1,9 @@
 -- The words of a pool as slots: the header, then a slot for each node. A slot is a kind, a count, and the rows that there is room for. Nothing here asks
 -- that a slot makes sense. Assumes nothing.
-use Prim.Native.Nat.{ℕ, zero, suc, _+_, _*_, _≤_}
-use mathlib.Core.Path.{_≡_}
+use Prim.Native.Nat.{ℕ, zero, suc, _+_, _*_}
 use mathlib.Core.List.{List, [], _∷_, map}
-use lib.ListN.{length, take, drop, getD, set}
+use lib.ListN.{take, drop, getD}
 use Rattle.model.specs.declared.Settings.{Settings}
-use Rattle.model.specs.Sound.{InLimits}
 use Rattle.slots_raw.specs.declared.Row.{Row}
 
 -- ---- lengths, in words
@@ -65,26 +63,3 @@ slots st W = map (rawOf (st .rows)) (chunks (width (st .rows)) (st .nodes) (drop
 -- slot s; an unused one past the end
 unfoldable pub rawAt : Settings → List ℕ → ℕ → Raw
 rawAt st W s = getD (slots st W) s (rawOf (st .rows) [])
-
--- a slot with other rows, and with another kind and count
-abbrev pub withCells : Raw → List Row → Raw
-withCells r l = record { kind = r .kind; count = r .count; cells = l }
-
-abbrev pub withHead : Raw → ℕ → ℕ → Raw
-withHead r k c = record { kind = k; count = c; cells = r .cells }
-
--- the slots with slot s so changed
-abbrev pub putCells : Settings → List ℕ → ℕ → List Row → List Raw
-putCells st W s l = set (slots st W) s (withCells (rawAt st W s) l)
-
-abbrev pub putHead : Settings → List ℕ → ℕ → ℕ → ℕ → List Raw
-putHead st W s k c = set (slots st W) s (withHead (rawAt st W s) k c)
-
--- ---- what contracts say
-
--- the settings are in limits, a slot has room for a node that is about to be split, and W is as long as they say
-pub record Shape (st : Settings) (W : List ℕ) : Type 0 where
-  pub limits : InLimits st
-  pub roomy : 2 * st .order ≤ st .rows
-  pub most : st .rows ≤ 64
-  pub size : length W ≡ headLen + st .nodes * width (st .rows)

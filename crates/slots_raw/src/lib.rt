@@ -1,15 +1,13 @@
-// Slots as they are stored. Nothing here asks that a slot makes sense: a count may be any number, and
+// Slots as they are stored, read. Nothing here asks that a slot makes sense: a count may be any number, and
 // the rows past it any rows. So these functions read pools that are not known to be in order, and the
-// functions on nodes are made of them.
+// functions on nodes are made of them. Slots are written by crate slots_write.
 ghost use mathlib.Core.Path.{_≡_};
 ghost use Prim.Native.Nat.{_≤_, _<_};
-ghost use mathlib.Core.List.{_∷_, []};
-ghost use lib.ListN.{getD, replicate};
+ghost use lib.ListN.{getD};
 ghost use Rattle.words.specs.Words.{words};
-ghost use Rattle.slots_raw.specs.Over.{over, part};
 ghost use Rattle.slots_raw.specs.Slots as Slots;
-ghost use Rattle.slots_raw.specs.Slots.{Shape, rawAt, putCells, putHead, blank};
-ghost use Rattle.slots_raw.specs.Contracts.{Cells, Base, Wrote};
+ghost use Rattle.slots_raw.specs.Contracts.{Shape, ToTouchCells, Based};
+ghost use Rattle.slots_raw.specs.Slots.{rawAt, blank};
 use model::Settings;
 
 // How many words the header has, the head of a slot (its kind and its count), and a row.
@@ -47,7 +45,7 @@ pub fn raw_count(pool: &[u8], st: Settings, s: usize) -> usize
 
 // Row `i` of slot `s`.
 pub fn raw_row(pool: &[u8], st: Settings, s: usize, i: usize) -> Row
-    requires { ⌜ Cells st (words (now pool)) s i 1 ⌝ }
+    requires { ⌜ ToTouchCells st (words (now pool)) s i 1 ⌝ }
     ensures { λ r. ⌜ r ≡ getD (rawAt st (words (now (pool .entry))) s .cells) i blank ⌝ }
 {
     let p = base(pool, st, s) + (HEAD + i * ROW);
@@ -57,60 +55,11 @@ pub fn raw_row(pool: &[u8], st: Settings, s: usize, i: usize) -> Row
     Row { key, body, size }
 }
 
-// Sets kind and count of slot `s`.
-pub fn raw_head(pool: &mut [u8], st: Settings, s: usize, kind: u64, count: usize)
-    requires { ⌜ Shape st (words (now pool)) × (s < st .nodes) ⌝ }
-    ensures { λ _. let W = words (now (pool .entry)) in ⌜ Wrote st W (words (now (pool .exit))) (putHead st W s kind count) ⌝ }
-{
-    let b = base(pool, st, s);
-    words::put(pool, b, kind);
-    words::put(pool, b + 1, count as u64);
-}
-
-// Sets row `i` of slot `s`.
-pub fn raw_put(pool: &mut [u8], st: Settings, s: usize, i: usize, row: Row)
-    requires { ⌜ Cells st (words (now pool)) s i 1 ⌝ }
-    ensures { λ _. let W = words (now (pool .entry)) in
-        ⌜ Wrote st W (words (now (pool .exit))) (putCells st W s (over (rawAt st W s .cells) i 1 (row ∷ []))) ⌝ }
-{
-    let p = base(pool, st, s) + (HEAD + i * ROW);
-    words::put(pool, p, row.key);
-    words::put(pool, p + 1, row.body);
-    words::put(pool, p + 2, row.size);
-}
-
-// Copies `n` rows of slot `s`, from row `from` on, to slot `t`, from row `to` on. The two may be one slot,
-// and the runs may overlap.
-pub fn raw_move(pool: &mut [u8], st: Settings, s: usize, from: usize, t: usize, to: usize, n: usize)
-    requires { ⌜ Cells st (words (now pool)) s from n × Cells st (words (now pool)) t to n ⌝ }
-    ensures { λ _. let W = words (now (pool .entry)) in
-        ⌜ Wrote st W (words (now (pool .exit))) (putCells st W t (over (rawAt st W t .cells) to n (part (rawAt st W s .cells) from n))) ⌝ }
-{
-    let a = base(pool, st, s);
-    let b = base(pool, st, t);
-    words_runs::shift(
-        pool,
-        a + (HEAD + from * ROW),
-        b + (HEAD + to * ROW),
-        n * ROW,
-    );
-}
-
-// Makes `n` rows of slot `s`, from row `from` on, blank.
-pub fn raw_clear(pool: &mut [u8], st: Settings, s: usize, from: usize, n: usize)
-    requires { ⌜ Cells st (words (now pool)) s from n ⌝ }
-    ensures { λ _. let W = words (now (pool .entry)) in
-        ⌜ Wrote st W (words (now (pool .exit))) (putCells st W s (over (rawAt st W s .cells) from n (replicate n blank))) ⌝ }
-{
-    let b = base(pool, st, s);
-    words_runs::clear(pool, b + (HEAD + from * ROW), n * ROW);
-}
-
 // The word at which slot `s` starts. It is a function so that its contract says once, for all that read or
 // write a slot, that the slot stands within the pool and that no sum of places wraps.
 pub fn base(pool: &[u8], st: Settings, s: usize) -> usize
     requires { ⌜ Shape st (words (now pool)) × (s < st .nodes) ⌝ }
-    ensures { λ r. ⌜ Base st (words (now (pool .entry))) s r ⌝ }
+    ensures { λ r. ⌜ Based st (words (now (pool .entry))) s r ⌝ }
 {
     HEADER + s * width(st)
 }

@@ -9,7 +9,8 @@ use native.Mathlib.Decide.{map-dec, ℕ-discrete, decLe, decLt}
 use lib.ListN.{length}
 use Rattle.words.specs.Words.{words}
 use Rattle.slots_raw.specs.declared.Row.{Row}
-use Rattle.slots_raw.specs.Slots.{width, headLen, rawAt, Shape}
+use Rattle.slots_raw.specs.Slots.{width, headLen, rawAt}
+use Rattle.slots_raw.specs.Contracts.{Shape}
 use Rattle.slots_pool.specs.Header.{layoutNumber, layoutOf}
 use Rattle.slots.specs.Nodes.{nodes, nth}
 use Rattle.slots.specs.Nodes as S
@@ -28,10 +29,10 @@ use Rattle.tree.specs.Bridge.{childOf, childTotals, treeAt, unusedOf}
 use Rattle.tree.specs.Pool.{poolLen, givenIn, heightAt, settingsIn, Kinds, EachChild, Separates, Totalled, SoundPool}
 use Rattle.tree.proofs.Sums.{totals-discrete}
 use Rattle.tree.proofs.Pools.{exact-shape}
-use Rattle.survey.specs.Surveyed.{Headed}
+use Rattle.survey.specs.Contracts.{Headed, Idle}
 use Rattle.tree_spare.proofs.Spares.{unused-few}
-use Rattle.survey.specs.Slots.{Idle}
-use Rattle.survey_node.specs.Checked.{Tail, Right, leastRoot, SoundTree}
+use Rattle.survey_node.specs.Contracts.{Tail, Right, SoundTree}
+use Rattle.survey_node.specs.Parts.{leastRoot}
 use Rattle.survey_node.proofs.Heads.{tail-told}
 use Rattle.survey.proofs.Verdicts.{unmet, right-sound, sound-full, sound-right, sound-pool, pool-headed, pool-idle, pool-tree}
 

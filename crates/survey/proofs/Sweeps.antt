@@ -16,7 +16,7 @@ use Rattle.slots.proofs.Nodes.{kind-node, length-nodes}
 use Rattle.slots_pool.proofs.Canons.{past-raw}
 use Rattle.model.specs.declared.Settings.{Settings}
 use Rattle.tree.specs.Bridge.{unusedFrom}
-use Rattle.survey.specs.Slots.{Idle, SlotsTold}
+use Rattle.survey.specs.Contracts.{Idle, SlotsTold}
 
 -- where the pass stands when it has come down to slot s
 pub record Swept (st : Settings) (W : List ℕ) (free least s : ℕ) : Type 0 where

@@ -30,10 +30,10 @@ use Rattle.tree.proofs.SoundHolds.{read-holds}
 use Rattle.tree.proofs.Unused.{used-in, used-none, unused-past, unused-once}
 use Rattle.survey.specs.declared.Findings.{Findings}
 use Rattle.survey_node.specs.declared.Part.{Part}
-use Rattle.survey.specs.Surveyed.{Surveyed, Headed, unsound}
+use Rattle.survey.specs.Contracts.{Surveyed, Headed, unsound, Idle}
 use Rattle.tree_spare.proofs.Spares.{spared-one}
-use Rattle.survey.specs.Slots.{Idle}
-use Rattle.survey_node.specs.Checked.{Last, last, There, Tail, Right, Checked, leastRoot, SoundTree}
+use Rattle.survey_node.specs.Parts.{Last, last, leastRoot}
+use Rattle.survey_node.specs.Contracts.{There, Tail, Right, Checked, SoundTree}
 use Rattle.survey_node.proofs.Rows.{kinds-there}
 use Rattle.survey.proofs.Places.{hit-most, each-once}
 use Rattle.survey.proofs.Apart.{slots-once}

@@ -1,3 +1,2 @@
--- `Surveyed` says what the survey of a pool promises, `Slots` what the pass over its slots tells.
-pub mod Surveyed
-pub mod Slots
+-- `Contracts` has what the survey of a pool promises, and what the pass over its slots tells.
+pub mod Contracts

@@ -13,7 +13,7 @@
 // twice, and the keys must ascend. The nodes reached are then as many as the slots in use, so every one of these is reached.
 ghost use mathlib.Core.Path.{_≡_};
 ghost use Rattle.model.specs.Answer.{Tells};
-ghost use Rattle.survey.specs.Surveyed.{Surveyed, Headed, unsound};
+ghost use Rattle.survey.specs.Contracts.{Surveyed, Headed, unsound};
 
 mod spares; // the pass over the slots
 mod walk; // the walk over the tree

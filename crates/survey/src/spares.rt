@@ -1,8 +1,8 @@
 // The pass over the slots: the unused ones, which must be all zero. Of a slot in use it reads the kind only, and leaves the rest to
 // the walk, which then reads each such slot once, from its first word to its last.
 ghost use Rattle.words.specs.Words.{words};
-ghost use Rattle.slots_raw.specs.Slots.{Shape};
-ghost use Rattle.survey.specs.Slots.{SlotsTold};
+ghost use Rattle.slots_raw.specs.Contracts.{Shape};
+ghost use Rattle.survey.specs.Contracts.{SlotsTold};
 use model::Settings;
 use tree_spare::Spare;
 

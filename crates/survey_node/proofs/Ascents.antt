@@ -9,7 +9,7 @@ use Rattle.model.specs.Lists.{All, none, one, nil, cons}
 use Rattle.model.specs.Sound.{Sorted}
 use Rattle.model.proofs.Lists.{all-map}
 use Rattle.model.proofs.Trees.{Ends}
-use Rattle.survey_node.specs.Checked.{Last, last, met, after, Beyond}
+use Rattle.survey_node.specs.Parts.{Last, last, met, after, Beyond}
 
 -- as the walk tests them
 abbrev pub Ascends : Last → List Entry → Type 0

@@ -7,7 +7,8 @@ use native.Mathlib.Omega.{arith}
 use lib.ListN.{length, take, drop, getD, replicate, length-take}
 use lib.Seq.{getD-take}
 use Rattle.slots_raw.specs.declared.Row.{Row}
-use Rattle.slots_raw.specs.Slots.{blank, rawAt, Shape}
+use Rattle.slots_raw.specs.Slots.{blank, rawAt}
+use Rattle.slots_raw.specs.Contracts.{Shape}
 use Rattle.slots.specs.Nodes.{nodeOf, rowsAt}
 use Rattle.slots.specs.Nodes as S
 use Rattle.slots.proofs.Nodes.{node-raw}
@@ -16,7 +17,7 @@ use Rattle.model.specs.declared.Settings.{Settings}
 use Rattle.model.specs.Answer.{Tells}
 use Rattle.tree.specs.Bridge.{childOf}
 use Rattle.tree.specs.Pool.{firstChild}
-use Rattle.survey_node.specs.Checked.{Tail}
+use Rattle.survey_node.specs.Contracts.{Tail}
 
 module _ (st : Settings) (W : List ℕ) (s : ℕ) where
   pub rows-raw : rowsAt st W s ≡ take (rawAt st W s .count) (rawAt st W s .cells)

@@ -19,7 +19,8 @@ use Rattle.model.proofs.Lists.{all-append, all-left, all-right, all-head, all-t
 use Rattle.model.proofs.Trees.{slotsIn}
 use Rattle.tree.specs.Bridge.{entryOf, childOf, treeAt}
 use Rattle.tree.specs.Pool.{Kinds, EachChild, Separates, Totalled}
-use Rattle.survey_node.specs.Checked.{Last, after, Beyond, There, EachThere, Head, Opened, Tail, Right}
+use Rattle.survey_node.specs.Parts.{Last, after, Beyond}
+use Rattle.survey_node.specs.Contracts.{There, EachThere, Head, Opened, Tail, Right}
 use Rattle.survey_node.proofs.Ascents.{Ascends, ascends-append, ascends-left, ascends-right, ascends-beyond, ascends-sorted, sorted-ascends}
 
 -- WHAT A ROW HOLDS: an entry, or a child

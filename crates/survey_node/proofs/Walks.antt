@@ -18,10 +18,11 @@ use Rattle.model.specs.Sound.{Whole}
 use Rattle.model.specs.Contracts.{flat}
 use Rattle.model.proofs.Trees.{slotsIn, separator-ends, zero-plus, plus-zero, plus-assoc}
 use Rattle.tree.specs.Bridge.{entryOf, childOf, treeAt}
-use Rattle.tree.specs.Sums.{ToAdd}
+use Rattle.tree.specs.Contracts.{ToAdd}
 use Rattle.tree.proofs.Bounds.{Small, Slight, small-none, small-more, small-addable, entry-slight, child-slight}
 use Rattle.survey_node.specs.declared.Part.{Part}
-use Rattle.survey_node.specs.Checked.{Last, last, after, Head, Tail, Right, Checked, EntryRight, RowRight, begun, grown}
+use Rattle.survey_node.specs.Parts.{Last, last, after, begun, grown}
+use Rattle.survey_node.specs.Contracts.{Head, Tail, Right, Checked, EntryRight, RowRight}
 use Rattle.survey_node.proofs.Ascents.{after-append, after-ends}
 use Rattle.survey_node.proofs.Rows.{itemAt, itemsAt, RightRow, RightRows, rows-none, rows-cons, rows-head, rows-tail, rows-right}
 

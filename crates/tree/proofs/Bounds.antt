@@ -12,7 +12,7 @@ use Rattle.model.specs.Tree.{Tree, entries, total, isLive, adds, plus, noTotals
 use Rattle.model.specs.Sound.{Fits}
 use Rattle.model.proofs.Trees.{total-list, sizes-few}
 use Rattle.tree.specs.Bridge.{childTotals}
-use Rattle.tree.specs.Sums.{ToAdd}
+use Rattle.tree.specs.Contracts.{ToAdd}
 use Rattle.tree.proofs.ReadOff.{total-count}
 
 -- the totals of one row: of an entry, or of a child whose row counts them in 20 bits

@@ -8,7 +8,7 @@ use lib.ListN.{length, getD, length-map}
 use Rattle.slots_raw.specs.declared.Row.{Row}
 use Rattle.slots_raw.specs.Slots.{blank}
 use Rattle.slots.specs.Nodes.{nodes, nth, Held}
-use Rattle.slots.specs.Contracts.{At}
+use Rattle.slots.specs.Contracts.{ToTouch}
 use Rattle.slots.specs.Nodes as S
 use Rattle.slots.proofs.Nodes.{length-nodes}
 use Rattle.model.specs.declared.Settings.{Settings}
@@ -31,7 +31,7 @@ at-map g (x ∷ l) (suc i) a b h = at-map g l i a b (le-of-suc-le-suc h)
 pub held-kind : (ns : List S.Node) (h s : ℕ) → Holds ns h (treeAt ns h s) → nth ns s .kind ≡ kindFor h
 held-kind ns h s k = ap (λ (t : ℕ). nth ns t .kind) (sym (slot-read ns h s)) ∙ ap (λ (n : S.Node). n .kind) (all-head k)
 
-pub held-at : (st : Settings) (W : List ℕ) (h s : ℕ) → Held st W → Holds (nodes st W) h (treeAt (nodes st W) h s) → At st W s
+pub held-at : (st : Settings) (W : List ℕ) (h s : ℕ) → Held st W → Holds (nodes st W) h (treeAt (nodes st W) h s) → ToTouch st W s
 held-at st W h s held k =
     let used = used-in (nodes st W) s (λ z. kind-used h (sym (held-kind (nodes st W) h s k) ∙ z)) in
     record { held = held; slot = omega (arith, used, length-nodes st W) }

@@ -23,7 +23,7 @@ use Rattle.model.proofs.Layers.{handed-most}
 use Rattle.model.proofs.Calls.{new-sound}
 use Rattle.tree.specs.Bridge.{Cell}
 use Rattle.tree.specs.Pool.{poolLen, nodeIn, nodesOf, imageOf, SoundPool}
-use Rattle.tree.specs.Opening.{Opened}
+use Rattle.tree.specs.Contracts.{Opened}
 use Rattle.model.specs.Answer.{Tells}
 use Rattle.model.proofs.Answers.{tells-unique}
 use Rattle.tree.proofs.Pools.{image-sound}

@@ -7,7 +7,8 @@ use native.Mathlib.Omega.{arith}
 use lib.ListN.{length, getD}
 use Rattle.words.specs.Words.{words, bytesOf}
 use Rattle.words.proofs.Laws.{Bytes, length-words, length-bytesOf, bytesOf-words, bytesOf-bytes, words-bytesOf}
-use Rattle.slots_raw.specs.Slots.{width, headLen, headIn, Shape}
+use Rattle.slots_raw.specs.Slots.{width, headLen, headIn}
+use Rattle.slots_raw.specs.Contracts.{Shape}
 use Rattle.slots_pool.specs.Header.{layoutOf, settingsOf, headerOf}
 use Rattle.slots.specs.Nodes.{nodes, nth, Held}
 use Rattle.slots.specs.Nodes as S

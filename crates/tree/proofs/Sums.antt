@@ -16,7 +16,8 @@ use Rattle.model.specs.Sound.{Fits}
 use Rattle.model.specs.Contracts.{flat}
 use Rattle.model.proofs.Trees.{listTotals, total-list, totals-count, sizes-few, plus-zero, plus-assoc}
 use Rattle.tree.specs.Bridge.{childTotals, rowTotals, rowFor}
-use Rattle.tree.specs.Sums.{sumRows, ToAdd, Sums}
+use Rattle.tree.specs.Sums.{sumRows, Sums}
+use Rattle.tree.specs.Contracts.{ToAdd}
 use Rattle.tree.proofs.Rows.{totals-back}
 use Rattle.tree.proofs.ReadOff.{Light, total-count}
 

@@ -12,7 +12,7 @@ use lib.ListN.{length, set, List·getD-eq-default}
 use borrow.Author.Tests.{lt-ltb, le-ltb, eq-eqb, ne-eqb}
 use Rattle.slots.specs.Nodes.{unusedKind, nth, unused}
 use Rattle.slots.specs.Nodes as S
-use Rattle.slots_find.specs.Search.{Lowest}
+use Rattle.slots_find.specs.Contracts.{Lowest}
 use Rattle.model.specs.Lists.{hit, times, All, none, one, nil, cons}
 use Rattle.model.specs.Tree.{lowest, others, release}
 use Rattle.model.specs.Sound.{Ascending}

@@ -6,7 +6,7 @@ ghost use Rattle.model.specs.Answer.{Tells};
 ghost use Rattle.model.specs.Sound.{handed, InLimits};
 ghost use Rattle.tree.specs.Bridge.{kindFor};
 ghost use Rattle.tree.specs.Pool.{poolLen};
-ghost use Rattle.tree.specs.Opening.{Opened};
+ghost use Rattle.tree.specs.Contracts.{Opened};
 use model::PoolSettings;
 use slots::INTERIOR;
 use slots::LEAF;

@@ -6,9 +6,10 @@ ghost use lib.ListN.{length, getD};
 ghost use Rattle.words.specs.Words.{words};
 ghost use Rattle.slots_raw.specs.Slots.{blank};
 ghost use Rattle.slots.specs.Nodes.{rowsAt};
-ghost use Rattle.slots.specs.Contracts.{At, Rows};
+ghost use Rattle.slots.specs.Contracts.{ToTouch, ToTouchRows};
 ghost use Rattle.tree.specs.Bridge.{childOf};
-ghost use Rattle.tree.specs.Sums.{sumRows, ToWeigh};
+ghost use Rattle.tree.specs.Sums.{sumRows};
+ghost use Rattle.tree.specs.Contracts.{ToWeigh};
 ghost use Rattle.tree_node.specs.Ask.{lastKey, rowOver, Chosen};
 use model::Settings;
 use model::Totals;
@@ -48,7 +49,7 @@ pub fn weigh(pool: &[u8], st: Settings, height: usize, s: usize) -> Row
 
 // The key of the last row of node `s`, or 0 where it has none.
 fn last_key(pool: &[u8], st: Settings, s: usize) -> u64
-    requires { ⌜ At st (words (now pool)) s ⌝ }
+    requires { ⌜ ToTouch st (words (now pool)) s ⌝ }
     ensures { λ r. ⌜ r ≡ lastKey (rowsAt st (words (now (pool .entry))) s) ⌝ }
 {
     let n = slots::count(pool, st, s);
@@ -60,7 +61,7 @@ fn last_key(pool: &[u8], st: Settings, s: usize) -> u64
 
 // The slot that row `i` of node `s` names.
 pub fn child_at(pool: &[u8], st: Settings, s: usize, i: usize) -> usize
-    requires { ⌜ Rows st (words (now pool)) s i 1 ⌝ }
+    requires { ⌜ ToTouchRows st (words (now pool)) s i 1 ⌝ }
     ensures { λ r. ⌜ r ≡ childOf (getD (rowsAt st (words (now (pool .entry))) s) i blank) ⌝ }
 {
     let row = slots::row_at(pool, st, s, i);
@@ -69,7 +70,7 @@ pub fn child_at(pool: &[u8], st: Settings, s: usize, i: usize) -> usize
 
 // The child of node `s`, from child `from` on, that `key` goes to: the first whose separator is not below it, or the last.
 pub fn child_for(pool: &[u8], st: Settings, s: usize, from: usize, key: u64) -> usize
-    requires { ⌜ At st (words (now pool)) s × (from < length (rowsAt st (words (now pool)) s)) ⌝ }
+    requires { ⌜ ToTouch st (words (now pool)) s × (from < length (rowsAt st (words (now pool)) s)) ⌝ }
     ensures { λ r. ⌜ Chosen (rowsAt st (words (now (pool .entry))) s) from key r ⌝ }
 {
     let n = slots::count(pool, st, s);

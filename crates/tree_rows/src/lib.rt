@@ -8,7 +8,7 @@ ghost use Rattle.model.specs.Answer.{Tells};
 ghost use Rattle.model.specs.Tree.{adds, plus};
 ghost use Rattle.model.specs.Plain.{entryFor};
 ghost use Rattle.tree.specs.Bridge.{entryRow, entryOf, childOf, childRow, childTotals, rowTotals};
-ghost use Rattle.tree.specs.Sums.{ToAdd, ToPack};
+ghost use Rattle.tree.specs.Contracts.{ToAdd, ToPack};
 use model::Entry;
 use model::Reference;
 use model::Totals;

@@ -8,7 +8,7 @@ use lib.Dec.{eqb}
 use lib.ListN.{length}
 use Rattle.slots.specs.Nodes.{Held, nodes, nth}
 use Rattle.slots.specs.Nodes as S
-use Rattle.slots_find.specs.Search.{Below, Lowest}
+use Rattle.slots_find.specs.Contracts.{Below, Lowest}
 use Rattle.slots.proofs.Nodes.{length-nodes}
 use Rattle.model.specs.declared.Settings.{Settings}
 use Rattle.model.specs.Lists.{times}

@@ -5,7 +5,7 @@ use mathlib.Core.List.{List}
 use lib.ListN.{length}
 use Rattle.slots.specs.Nodes.{Held, nodes}
 use Rattle.slots.specs.Nodes as S
-use Rattle.slots_find.specs.Search.{Below, Lowest}
+use Rattle.slots_find.specs.Contracts.{Below, Lowest}
 use Rattle.model.specs.declared.Settings.{Settings}
 use Rattle.tree.specs.Bridge.{unusedOf}
 use Rattle.tree_spare.specs.declared.Spare.{Spare}

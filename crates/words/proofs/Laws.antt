@@ -1,11 +1,11 @@
--- The laws of `specs/Words.antt`: how many words a pool has and how large they are, that they go with `++`, `take` and `drop`, that bytes
+-- The laws of `specs/Words.antt`: how many words a pool has, that they go with `++`, `take` and `drop`, that bytes
 -- and words determine each other, and what eight reads or stores are to the words. Assumes nothing.
 use mathlib.Core.Path.{_≡_, refl, sym, ap, _∙_}
 use Prim.Native.Nat.{ℕ, zero, suc, _+_, _*_, _/_, _%_, _^_, _≤_, _<_}
-use native.Mathlib.Nat.{le-of-suc-le-suc, not-suc-le-zero, zero-add, suc-add, pow-suc, pow-le-pow-right, lt-of-lt-of-le}
+use native.Mathlib.Nat.{le-of-suc-le-suc, not-suc-le-zero, zero-add, suc-add, pow-suc}
 use native.Mathlib.Omega.{arith}
 use mathlib.Core.List.{List, [], _∷_, _++_}
-use lib.ListN.{length, take, drop, getD, set, length-set, length-append, length-take, length-drop, take-append-drop}
+use lib.ListN.{length, take, drop, getD, set, length-set, length-append, length-drop, take-append-drop}
 use lib.Seq.{drop-drop, take-append-le, drop-append-le, take-at, drop-at, length-take-le, set-split, drop-cons, sets, sets-eq, append-snoc, getD-drop, drop-set-lt}
 use Rattle.words.specs.Words.{word, wordsN, words, behind, spell, bytesOf, Same}
 
@@ -125,25 +125,7 @@ spell-word (b ∷ l) h =
     let high : (b + 256 * word l) / 256 ≡ word l = omega arith in
     rw (low, high, spell-word l (λ i. h (suc i)))
 
-word-lt : (l : List ℕ) → Bytes l → word l < 256 ^ length l
-unfolding word
-word-lt [] h = omega arith
-word-lt (b ∷ l) h = omega (arith, word-lt l (λ i. h (suc i)), h zero, pow-suc 256 (length l))
-
 -- ---- all words and their bytes
-
-wordsN-lt : (n : ℕ) (l : List ℕ) → Bytes l → (i : ℕ) → getD (wordsN n l) i 0 < 2 ^ 64
-unfolding wordsN
-wordsN-lt zero l h i = omega arith
-wordsN-lt (suc n) l h zero =
-    let short : length (take 8 l) ≤ 8 = omega (arith, length-take 8 l) in
-    lt-of-lt-of-le (word-lt (take 8 l) (bytes-take 8 l h)) (pow-le-pow-right {n = 256} (omega arith) short)
-wordsN-lt (suc n) l h (suc i) = wordsN-lt n (drop 8 l) (bytes-drop 8 l h) i
-
--- each word is below 2 ^ 64
-pub words-lt : (l : List ℕ) → Bytes l → (i : ℕ) → getD (words l) i 0 < 2 ^ 64
-unfolding words
-words-lt l h i = wordsN-lt (length l / 8) l h i
 
 -- the bytes of some words
 pub length-bytesOf : (ws : List ℕ) → length (bytesOf ws) ≡ 8 * length ws

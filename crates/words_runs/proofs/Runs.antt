@@ -8,17 +8,13 @@ use native.Mathlib.Numerals.{add-one}
 use native.Mathlib.Omega.{arith}
 use mathlib.Core.List.{List, [], _∷_, _++_, append-assoc, append-nil}
 use lib.ListN.{length, take, drop, getD, set, replicate, length-append, length-drop, length-replicate, replicate-append-replicate, take-append-drop, List·getD-append}
-use lib.Seq.{paste, paste-zero, paste-suc, length-paste, drop-paste, getD-drop, getD-take, drop-cons, take-suc, set-at, append-snoc, length-take-le, take-add, drop-drop}
+use lib.Seq.{paste, paste-zero, paste-suc, drop-paste, getD-drop, getD-take, drop-cons, take-suc, set-at, append-snoc, length-take-le, take-add, drop-drop}
 use lib.Bits.{bitOr, or-zero-l, or-add-and, and-le-r}
 use lib.Dec.{eqb, eqb·suc-zero}
 use borrow.Author.Tests.{ne-eqb}
 use Rattle.words_runs.specs.Moves.{moved, cleared, allZero}
 
 -- ---- `moved`, to a lower place: the first k words are moved
-
-pub length-moved : (W : List ℕ) (from to n : ℕ) → from + n ≤ length W → to + n ≤ length W → length (moved W from to n) ≡ length W
-unfolding moved
-length-moved W from to n h k = length-paste W to (drop from W) n k (simp length-drop (omega arith))
 
 pub moved-none : (W : List ℕ) (from to : ℕ) → W ≡ moved W from to 0
 unfolding moved
@@ -83,10 +79,6 @@ from-all W from to n =
     rw (a, b, z)
 
 -- ---- `cleared`: the first k words are 0
-
-pub length-cleared : (W : List ℕ) (from n : ℕ) → from + n ≤ length W → length (cleared W from n) ≡ length W
-unfolding cleared
-length-cleared W from n h = simp (length-append, length-replicate, length-drop) (omega (arith, length-take-le from W (omega arith)))
 
 pub cleared-none : (W : List ℕ) (from : ℕ) → W ≡ cleared W from 0
 unfolding cleared

@@ -6,7 +6,7 @@ use native.Mathlib.Omega.{arith}
 use lib.ListN.{length}
 use Rattle.words.specs.Words.{words}
 use Rattle.model.specs.Refuse.{call}
-use Rattle.batch_node.specs.Calls.{ToChange, NodeChanged}
+use Rattle.batch_node.specs.Contracts.{ToChange, NodeChanged}
 use Rattle.batch_node.proofs.Rounds.{Roaming, round-start, round-at, round, next-in, child-in, child-call, pending, round-again, round-less, round-end}
 use borrow.Author.Needs.{needs}
 use borrow.Fn.Kinds.{In}

@@ -6,7 +6,8 @@ use borrow.Author.Needs.{needs}
 use Rattle.words.specs.Words.{words}
 use Rattle.slots.specs.Nodes.{nodes}
 use Rattle.slots.proofs.Nodes.{become}
-use Rattle.batch_share.specs.Renew.{ToRenew, renewed}
+use Rattle.batch_share.specs.Contracts.{ToRenew}
+use Rattle.batch_share.specs.Children.{renewed}
 use Rattle.batch_settle.proofs.renew_child.Statement.{statement}
 use Rattle.batch_settle.proofs.renew_child.Tie as tie
 

@@ -1,7 +1,7 @@
 -- `scan` meets its contract: the survey tells whether the pool is sound; where it is not the call refuses (`scan-unsound`), and where it is what was
 -- written, and the nodes that were opened, are the model's (`scan-told`). Assumes nothing.
 use borrow.Author.Needs.{needs}
-use Rattle.look.specs.Calls.{requestFor}
+use Rattle.model.specs.Look.{requestFor}
 use Rattle.index_look.proofs.Keeps.{unsound, sound, in-pool, scan-unsound, scan-told}
 use Rattle.index_look.proofs.scan.Statement.{statement}
 use Rattle.index_look.proofs.scan.Tie as tie

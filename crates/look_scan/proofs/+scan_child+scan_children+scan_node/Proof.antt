@@ -12,7 +12,8 @@ use Rattle.words.specs.Words.{words}
 use Rattle.slots.specs.Nodes.{nodes, rowsAt}
 use Rattle.model.specs.Look.{openings}
 use Rattle.tree.specs.Bridge.{treeAt}
-use Rattle.look_scan.specs.Walk.{placeIn, walkAt, visitAll, ToScan}
+use Rattle.look_scan.specs.Walk.{placeIn, walkAt, visitAll}
+use Rattle.look_scan.specs.Contracts.{ToScan}
 use Rattle.tree.proofs.Children.{held-at}
 use Rattle.look_scan.proofs.Rounds.{passed-over, to-child, from-child, Walking, walk-counts, walk-starts, walk-is, walk-ends, walk-stops, walk-enters, walk-leaves, walk-goes-on}
 use Rattle.look_scan.proofs.scan_child.Reads as scan-child

@@ -6,7 +6,7 @@ use borrow.Author.Needs.{needs}
 use borrow.Author.Count.{below-more}
 use Rattle.words.specs.Words.{words}
 use Rattle.slots.specs.Nodes as N
-use Rattle.slots_find.specs.Search.{Below}
+use Rattle.slots_find.specs.Contracts.{Below}
 use Rattle.slots.proofs.Nodes.{length-nodes}
 use Rattle.slots_find.proofs.lowest_unused.Statement.{statement}
 use Rattle.slots_find.proofs.lowest_unused.Tie as tie

@@ -6,7 +6,8 @@ use native.Mathlib.Omega.{arith}
 use borrow.Author.Needs.{needs}
 use Rattle.words.specs.Words.{words}
 use Rattle.slots_raw.specs.Over.{over, part}
-use Rattle.slots_raw.specs.Slots.{Raw, rawAt, withCells, withHead}
+use Rattle.slots_raw.specs.Slots.{Raw, rawAt}
+use Rattle.slots_write.specs.Puts.{withCells, withHead}
 use Rattle.slots.specs.Nodes.{rowsAt}
 use Rattle.slots_raw.proofs.Over.{length-part}
 use Rattle.slots.proofs.Nodes.{fits-node, again, opened-now, raw-other, part-node}

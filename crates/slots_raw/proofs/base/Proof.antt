@@ -5,17 +5,17 @@ use native.Mathlib.Omega.{arith}
 use borrow.Author.Needs.{needs}
 use Rattle.words.specs.Words.{words}
 use Rattle.slots_raw.specs.Slots.{headLen, width}
-use Rattle.slots_raw.specs.Contracts.{Base}
+use Rattle.slots_raw.specs.Contracts.{Based}
 use Rattle.slots_raw.proofs.Raws.{base-of}
 use Rattle.slots_raw.proofs.base.Statement.{statement}
 use Rattle.slots_raw.proofs.base.Tie as tie
 
 -- the slot starts where its width, as it was worked out, says
-starts : (c : tie.After-width) → let a = c .before .before .args in Base (a .st) (words (a .pool .now)) (a .s) (headLen + a .s * c .width .result)
+starts : (c : tie.After-width) → let a = c .before .before .args in Based (a .st) (words (a .pool .now)) (a .s) (headLen + a .s * c .width .result)
 starts c =
     let start = c .before .before in
     let a = start .args in
-    subst (λ (w : ℕ). Base (a .st) (words (a .pool .now)) (a .s) (headLen + a .s * w)) (sym (c .width .ensures))
+    subst (λ (w : ℕ). Based (a .st) (words (a .pool .now)) (a .s) (headLen + a .s * w)) (sym (c .width .ensures))
     (base-of (a .st) (words (a .pool .now)) (a .s) (start .pre .0) (start .pre .1))
 
 mul-result : tie.Need-mul-result

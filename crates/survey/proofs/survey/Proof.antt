@@ -13,13 +13,12 @@ use Rattle.model.specs.declared.Settings.{Settings}
 use Rattle.model.specs.Answer.{Tells}
 use Rattle.model.specs.Sound.{handed}
 use Rattle.model.proofs.Answers.{tells-yes, told-no}
-use Rattle.slots_raw.specs.Slots.{Shape}
+use Rattle.slots_raw.specs.Contracts.{Shape}
 use Rattle.tree.specs.Pool.{givenIn, settingsIn, nodesIn, heightAt}
 use Rattle.tree.proofs.Pools.{exact-shape}
-use Rattle.survey.specs.Surveyed.{Headed}
+use Rattle.survey.specs.Contracts.{Headed, SlotsTold}
 use Rattle.tree_spare.proofs.Spares.{unused-few}
-use Rattle.survey.specs.Slots.{SlotsTold}
-use Rattle.survey_node.specs.Checked.{SoundTree}
+use Rattle.survey_node.specs.Contracts.{SoundTree}
 use Rattle.survey.proofs.Verdicts.{survey-not, sound-pool, pool-headed, pool-idle, pool-tree}
 use Rattle.survey.proofs.survey.Statement.{statement}
 use Rattle.survey.proofs.survey.Tie as tie

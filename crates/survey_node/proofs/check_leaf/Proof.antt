@@ -16,7 +16,8 @@ use Rattle.model.specs.Tree.{adds}
 use Rattle.model.specs.Answer.{Tells}
 use Rattle.model.proofs.Answers.{told-no}
 use Rattle.tree.specs.Bridge.{entryOf}
-use Rattle.survey_node.specs.Checked.{Last, last, Head, Tail, EntryRight, grown}
+use Rattle.survey_node.specs.Parts.{Last, last, grown}
+use Rattle.survey_node.specs.Contracts.{Head, Tail, EntryRight}
 use Rattle.survey_node.proofs.Rows.{RightRow, right-rows, right-head, right-tail}
 use Rattle.survey_node.proofs.Walks.{Going, going-none, going-on, going-fault, going-addable, entry-row, row-entry, checked-not, checked-end}
 use Rattle.survey_node.proofs.Heads.{row-raw, head-count, tail-told}

@@ -15,7 +15,7 @@ use Rattle.model.specs.Lists.{All, none}
 use Rattle.model.proofs.Answers.{told-no, tells-no, tells-yes}
 use Rattle.model.proofs.Lists.{all-at, all-more, all-past}
 use Rattle.tree.specs.Bridge.{childOf}
-use Rattle.survey_node.specs.Checked.{There}
+use Rattle.survey_node.specs.Contracts.{There}
 use Rattle.survey_node.proofs.Heads.{row-raw, head-count}
 use Rattle.survey_node.proofs.children_there.Statement.{statement}
 use Rattle.survey_node.proofs.children_there.Tie as tie

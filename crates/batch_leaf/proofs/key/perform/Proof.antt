@@ -3,7 +3,7 @@ use mathlib.Core.Path.{refl, sym}
 use borrow.Author.Needs.{needs}
 use Rattle.words.specs.Words.{words}
 use Rattle.slots.specs.Nodes.{nodes}
-use Rattle.slots.specs.Contracts.{At}
+use Rattle.slots.specs.Contracts.{ToTouch}
 use Rattle.slots.proofs.Nodes.{become, put-same}
 use Rattle.batch_leaf.proofs.key.perform.Statement.{statement}
 use Rattle.batch_leaf.proofs.key.perform.Tie as tie
@@ -22,7 +22,7 @@ returns c =
     let start = c .before .before .before in
     let a = start .args in
     let W = words (a .pool .now) in
-    let pre : At (a .st) W (a .s) = rw (c .enum-told .given .1) at (start .pre) in
+    let pre : ToTouch (a .st) W (a .s) = rw (c .enum-told .given .1) at (start .pre) in
     rw (c .enum-told .given .1) (record { held = pre .held; is = sym (put-same (nodes (a .st) W) (a .s)); header = refl })
 
 returns-2 : tie.Need-returns-2

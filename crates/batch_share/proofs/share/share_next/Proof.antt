@@ -7,7 +7,7 @@ use borrow.Author.Needs.{needs}
 use Rattle.words.specs.Words.{words}
 use Rattle.slots.specs.Nodes.{nodes, nth}
 use Rattle.model.specs.Tree.{len}
-use Rattle.batch_share.specs.Settle.{childAt}
+use Rattle.batch_share.specs.Children.{childAt}
 use Rattle.batch_share.proofs.Places.{parent-in}
 use Rattle.batch_share.proofs.Focuses.{poise-focus, focus-sits, focus-few}
 use Rattle.batch_share.proofs.Shares.{fits-next, next-none, next-asks, next-poised, next-left}

@@ -4,8 +4,7 @@ use mathlib.Core.Bool.{true}
 use borrow.Author.Needs.{needs}
 use Rattle.words.specs.Words.{words}
 use Rattle.slots.specs.Nodes.{nodes}
-use Rattle.batch_share.specs.Settle.{beforeAt}
-use Rattle.batch_share.specs.Steps.{roomIn}
+use Rattle.batch_share.specs.Children.{beforeAt, roomIn}
 use Rattle.batch_share.proofs.Shares.{out-some, out-asks, out-poised, out-ended, out-stayed}
 use Rattle.batch_share.proofs.share.share_out.Statement.{statement}
 use Rattle.batch_share.proofs.share.share_out.Tie as tie

@@ -10,7 +10,7 @@ use Rattle.words.specs.Words.{words}
 use Rattle.slots.specs.Nodes.{nodes, nth}
 use Rattle.slots_raw.specs.Slots.{blank}
 use Rattle.slots_raw.specs.declared.Row.{Row}
-use Rattle.frame.specs.Walk.{entryFor}
+use Rattle.frame.specs.Frames.{entryFor}
 use Rattle.frame_text.specs.Contents.{padded, held}
 use Rattle.frame_text.specs.declared.FrameEntry.{FrameEntry}
 use Rattle.frame.proofs.Noded.{numbered, numbered-long, numbered-more, contents-numbered, size-fits}

@@ -2,7 +2,7 @@
 use mathlib.Core.Path.{subst}
 use borrow.Author.Needs.{needs}
 use Rattle.words.specs.Words.{words}
-use Rattle.frame.specs.Walk.{Located}
+use Rattle.frame.specs.Contracts.{Located}
 use Rattle.frame.specs.declared.Found.{Found}
 use Rattle.frame.specs.declared.Found.the-variants.{Node}
 use Rattle.frame.proofs.Noded.{node-standing, node-none, node-low, node-written, contents-few}

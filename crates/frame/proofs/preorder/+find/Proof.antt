@@ -9,7 +9,7 @@ use borrow.Fn.PlainCycle.{Measures, is, falls, and}
 use Rattle.words.specs.Words.{words}
 use Rattle.slots.specs.Nodes.{nodes, nth}
 use Rattle.slots.proofs.count.Reads as count-reads
-use Rattle.frame.specs.Walk.{Located}
+use Rattle.frame.specs.Contracts.{Located}
 use Rattle.frame.specs.declared.Found.the-variants.{Node}
 use Rattle.frame.specs.declared.Found.{Found}
 use Rattle.frame.proofs.Walks.{passed, passed-all, passed-leaf, standing-at, standing-row, standing-down, found-here, found-none, found-below, passed-below}

@@ -1,6 +1,6 @@
 -- `scan` meets its contract: a sound pool can be walked, and the walk lists and counts what the model does. Assumes nothing.
 use borrow.Author.Needs.{needs}
-use Rattle.look.specs.Calls.{requestFor}
+use Rattle.model.specs.Look.{requestFor}
 use Rattle.look.proofs.Sounds.{pool-scan, pool-scanned, pool-opened}
 use Rattle.look.proofs.calls.scan.Statement.{statement}
 use Rattle.look.proofs.calls.scan.Tie as tie

@@ -7,7 +7,7 @@ use Rattle.slots.specs.Nodes.{nodes}
 use Rattle.model.specs.Tree.{entries}
 use Rattle.model.specs.Plain.{held}
 use Rattle.tree.specs.Bridge.{treeAt}
-use Rattle.look.specs.Lookup.{ToDescend}
+use Rattle.look.specs.Contracts.{ToDescend}
 use Rattle.look.proofs.Descents.{grown-sorted, grown-some, descend, arrive}
 use Rattle.look.proofs.lookup.leaf_for.Statement.{statement}
 use Rattle.look.proofs.lookup.leaf_for.Tie as tie

@@ -12,7 +12,7 @@ use Rattle.model.specs.declared.Settings.{Settings}
 use Rattle.model.specs.Sound.{handed}
 use Rattle.model.proofs.Layers.{handed-root}
 use Rattle.slots.specs.Nodes.{leafKind, nodes, putKind, unused}
-use Rattle.slots.specs.Contracts.{At, Now}
+use Rattle.slots.specs.Contracts.{ToTouch, NodesPut}
 use Rattle.slots_pool.specs.Header.{headerOf}
 use Rattle.slots_pool.specs.Image.{image}
 use Rattle.slots_pool.proofs.Fresh.{blank-words, blank-held, new-words}
@@ -42,7 +42,7 @@ set-kind-requires c κs =
     let given = start .args .given in
     let W = words (headed .write-header .last .0) in
     let limits = start .pre .limits in
-    subst (λ (st : Settings). At st W (st .root)) (sym (known .handed .ensures))
+    subst (λ (st : Settings). ToTouch st W (st .root)) (sym (known .handed .ensures))
     (record { held = blank-held given W limits (blank headed); slot = handed-root given limits })
 
 returns : tie.Need-returns
@@ -55,7 +55,7 @@ returns c =
     let W = words (headed .write-header .last .0) in
     let X = words (opened .set-kind .last .0) in
     new-words given W (start .pre .limits) (blank headed) X
-    (subst (λ (st : Settings). Now st W X (putKind (nodes st W) (st .root) leafKind)) (known .handed .ensures) (opened .set-kind .ensures))
+    (subst (λ (st : Settings). NodesPut st W X (putKind (nodes st W) (st .root) leafKind)) (known .handed .ensures) (opened .set-kind .ensures))
 
 pub open-pool-spec : {M : Type 1} → statement M
 open-pool-spec = tie.close (tie.spec clear-requires (λ c κs. search needs) (λ c κs. search needs) set-kind-requires (λ c. search needs) returns)

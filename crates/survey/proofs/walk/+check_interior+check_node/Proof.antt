@@ -18,7 +18,8 @@ use Rattle.model.proofs.Answers.{told-no}
 use Rattle.model.proofs.Lists.{all-at}
 use Rattle.tree.specs.Bridge.{childOf}
 use Rattle.survey_node.specs.declared.Part.{Part}
-use Rattle.survey_node.specs.Checked.{last, There, Head, Tail, Opened, Right, Checked, RowRight}
+use Rattle.survey_node.specs.Parts.{last}
+use Rattle.survey_node.specs.Contracts.{There, Head, Tail, Opened, Right, Checked, RowRight}
 use Rattle.survey_node.proofs.Rows.{right-rows, right-opened, right-tail}
 use Rattle.survey_node.proofs.Walks.{Going, going-none, checked-not, checked-end, turn-fault, turn-addable, turn-on}
 use Rattle.survey_node.proofs.Heads.{row-raw, head-count, tail-told}

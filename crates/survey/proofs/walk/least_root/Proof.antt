@@ -2,7 +2,7 @@
 use mathlib.Core.Path.{_≡_, refl}
 use Prim.Native.Nat.{ℕ, zero, suc}
 use borrow.Author.Needs.{needs}
-use Rattle.survey_node.specs.Checked.{leastRoot}
+use Rattle.survey_node.specs.Parts.{leastRoot}
 use Rattle.survey.proofs.walk.least_root.Statement.{statement}
 use Rattle.survey.proofs.walk.least_root.Tie as tie
 

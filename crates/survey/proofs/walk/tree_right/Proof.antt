@@ -4,7 +4,8 @@ use borrow.Author.Needs.{needs}
 use borrow.Author.Tests.{not-true, not-false}
 use Rattle.words.specs.Words.{words}
 use Rattle.model.proofs.Answers.{tells-no, told-no}
-use Rattle.survey_node.specs.Checked.{Checked, leastRoot}
+use Rattle.survey_node.specs.Contracts.{Checked}
+use Rattle.survey_node.specs.Parts.{leastRoot}
 use Rattle.survey.proofs.Verdicts.{unmet, verdict-fault, verdict-tells, verdict-deep, verdict-there}
 use Rattle.survey.proofs.walk.tree_right.Statement.{statement}
 use Rattle.survey.proofs.walk.tree_right.Tie as tie

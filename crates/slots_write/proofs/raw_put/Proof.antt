@@ -5,10 +5,10 @@ use mathlib.Core.List.{List}
 use lib.ListN.{set}
 use borrow.Author.Needs.{needs}
 use Rattle.words.specs.Words.{words}
 use Rattle.slots_raw.specs.Slots.{slotHead, rowLen}
-use Rattle.slots_raw.proofs.Raws.{row-put}
-use Rattle.slots_raw.proofs.raw_put.Statement.{statement}
-use Rattle.slots_raw.proofs.raw_put.Tie as tie
+use Rattle.slots_write.proofs.Puts.{row-put}
+use Rattle.slots_write.proofs.raw_put.Statement.{statement}
+use Rattle.slots_write.proofs.raw_put.Tie as tie
 
 returns : tie.Need-returns
 returns c =

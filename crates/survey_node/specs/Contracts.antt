@@ -1,44 +1,21 @@
 -- What the walk over a tree tests, node by node, and what it has found when it comes back from one. Assumes nothing.
-use Prim.Native.Nat.{ℕ, zero, suc, _+_, _-_, _≤_, _<_}
+use Prim.Native.Nat.{ℕ, suc, _+_, _-_, _≤_, _<_}
 use mathlib.Core.Path.{_≡_}
-use mathlib.Core.Bool.{Bool, true}
-use mathlib.Core.List.{List, [], _∷_}
+use mathlib.Core.Bool.{true}
+use mathlib.Core.List.{List}
 use lib.ListN.{length}
 use Rattle.slots_raw.specs.declared.Row.{Row}
 use Rattle.slots_raw.specs.Slots.{rawAt}
 use Rattle.slots.specs.Nodes.{nodes, nth, rowsAt, Canon}
-use Rattle.model.specs.declared.Entry.{Entry}
-use Rattle.model.specs.declared.Totals.{Totals}
 use Rattle.model.specs.declared.Settings.{Settings}
 use Rattle.model.specs.Answer.{Tells}
 use Rattle.model.specs.Lists.{All}
-use Rattle.model.specs.Tree.{len, entries, slots, slotsOf, total, noTotals, plus}
+use Rattle.model.specs.Tree.{len, entries, slots, slotsOf, total}
 use Rattle.model.specs.Sound.{Whole, Sorted, Fits}
 use Rattle.tree.specs.Bridge.{kindFor, childOf, childTotals, entryOf, treeAt, unusedOf}
 use Rattle.tree.specs.Pool.{heightAt, indexIn, Kinds, EachChild, Separates, Totalled, SoundNodes}
 use Rattle.survey_node.specs.declared.Part.{Part}
-
--- THE LAST KEY that a walk has met
-
-pub record Last : Type 0 where
-  -- whether it has met one
-  pub some : Bool
-  pub key : ℕ
-
-abbrev pub last : Bool → ℕ → Last
-last some key = record { some = some; key = key }
-
--- after an entry, and after some
-abbrev pub met : Entry → Last
-met e = last true (e .key)
-
-abbrev pub after : Last → List Entry → Last
-after p [] = p
-after p (e ∷ es) = after (met e) es
-
--- the key of e is above it, if there is one
-abbrev pub Beyond : Last → Entry → Type 0
-Beyond p e = p .some ≡ true → p .key < e .key
+use Rattle.survey_node.specs.Parts.{Last, after, Beyond}
 
 -- A NODE
 
@@ -101,19 +78,7 @@ pub record RowRight (r : Row) (child : Part) : Type 0 where
   pub key : r .key ≡ child .last
   pub totals : childTotals r ≡ child .totals
 
--- at the start of a node's rows, and after another row
-abbrev pub begun : ℕ → ℕ → Part
-begun key left = record { ok = true; last = key; totals = noTotals; left = left }
-
-abbrev pub grown : Totals → ℕ → Totals → ℕ → Part
-grown sum key t left = record { ok = true; last = key; totals = plus sum t; left = left }
-
 -- THE ROOT
-
--- how many items it has at least
-abbrev pub leastRoot : ℕ → ℕ
-leastRoot zero = 0
-leastRoot (suc h) = 2
 
 -- what the walk is handed: the height down the left edge, and how many nodes are in use
 pub record ToWalk (st : Settings) (W : List ℕ) (h n : ℕ) : Type 0 where

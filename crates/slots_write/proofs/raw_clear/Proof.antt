@@ -1,9 +1,9 @@
 -- `raw_clear` meets its contract: the words that it clears are rows of slot `s` (`rows-cleared`). Assumes nothing.
 use borrow.Author.Needs.{needs}
 use Rattle.words.specs.Words.{words}
-use Rattle.slots_raw.proofs.Raws.{rows-cleared}
-use Rattle.slots_raw.proofs.raw_clear.Statement.{statement}
-use Rattle.slots_raw.proofs.raw_clear.Tie as tie
+use Rattle.slots_write.proofs.Puts.{rows-cleared}
+use Rattle.slots_write.proofs.raw_clear.Statement.{statement}
+use Rattle.slots_write.proofs.raw_clear.Tie as tie
 
 returns : tie.Need-returns
 returns c =

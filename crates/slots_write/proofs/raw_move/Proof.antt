@@ -1,9 +1,9 @@
 -- `raw_move` meets its contract: the words that it copies are rows of slot `s`, and become rows of slot `t` (`rows-moved`). Assumes nothing.
 use borrow.Author.Needs.{needs}
 use Rattle.words.specs.Words.{words}
-use Rattle.slots_raw.proofs.Raws.{rows-moved}
-use Rattle.slots_raw.proofs.raw_move.Statement.{statement}
-use Rattle.slots_raw.proofs.raw_move.Tie as tie
+use Rattle.slots_write.proofs.Puts.{rows-moved}
+use Rattle.slots_write.proofs.raw_move.Statement.{statement}
+use Rattle.slots_write.proofs.raw_move.Tie as tie
 
 returns : tie.Need-returns
 returns c =

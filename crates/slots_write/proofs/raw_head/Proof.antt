@@ -5,9 +5,9 @@ use mathlib.Core.List.{List}
 use lib.ListN.{set}
 use borrow.Author.Needs.{needs}
 use Rattle.words.specs.Words.{words}
-use Rattle.slots_raw.proofs.Raws.{head-put}
-use Rattle.slots_raw.proofs.raw_head.Statement.{statement}
-use Rattle.slots_raw.proofs.raw_head.Tie as tie
+use Rattle.slots_write.proofs.Puts.{head-put}
+use Rattle.slots_write.proofs.raw_head.Statement.{statement}
+use Rattle.slots_write.proofs.raw_head.Tie as tie
 
 returns : tie.Need-returns
 returns c =

@@ -21,7 +21,7 @@ use Rattle.tree_spare.specs.declared.Spare.{Spare}
 use Rattle.tree_spare.specs.Spared.{Spared}
 use Rattle.batch_leaf.specs.declared.Run.{Run}
 use Rattle.batch_leaf.specs.declared.Subtree.{Subtree}
-use Rattle.batch_leaf.specs.Leaf.{Batch}
+use Rattle.batch_leaf.specs.Contracts.{Underway}
 use Rattle.tree.specs.Bridge.{treeAt, unusedOf, Holds, Blank, Apart, Frame}
 use Rattle.batch_node.specs.declared.Reply.{Reply}
 
@@ -48,7 +48,7 @@ pub record Asked (st : Settings) (h ceiling : ℕ) (ns : List S.Node) (t : Tree 
 pub record ToChange (st : Settings) (W : List ℕ) (h : ℕ) (node : Subtree) (b : Call) (run : Run) : Type 0 where
   pub held : Held st W
   pub asked : Asked st h (node .ceiling) (nodes st W) (treeAt (nodes st W) h (node .slot)) (drop (run .next) (tasksOf b)) (run .spare)
-  pub batch : Batch b run
+  pub batch : Underway b run
 
 -- WHAT IS ANSWERED: the model's outcome o, and every slot in use outside the tree as it was
 pub record Answers (h : ℕ) (ns ms : List S.Node) (t : Tree h) (o : Outcome (Tree h)) (ts : List Task) (r : ChangeResult) (c : Counts) : Type 0 where
@@ -67,5 +67,5 @@ pub record NodeChanged (st : Settings) (W W′ : List ℕ) (h : ℕ) (node : Sub
       let t = treeAt (nodes st W) h (node .slot) in
       Answers h (nodes st W) (nodes st W′) t (change st h (node .ceiling) t (drop (run .next) (tasksOf b)) (runOf (nodes st W) (run .counts)))
       (drop (r .run .next) (tasksOf b)) (r .result) (r .run .counts)
-  pub batch : Batch b (r .run)
+  pub batch : Underway b (r .run)
   pub spared : Spared (nodes st W′) (r .run .spare)

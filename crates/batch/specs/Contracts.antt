@@ -27,7 +27,7 @@ pub record ToBatch (st : Settings) (W : List ℕ) (root : Root) (c : Call) : Typ
   pub accepted : refusal st c (indexAt (st .root) (nodes st W) (root .height)) ≡ 0
 
 -- the pool holds the model's index, every slot in use outside the index before is as it was, and the answer is of it
-pub record Batches (st : Settings) (W W′ : List ℕ) (x : Index) (b : Batched) (r : Ran) : Type 0 where
+pub record IndexChanged (st : Settings) (W W′ : List ℕ) (x : Index) (b : Batched) (r : Ran) : Type 0 where
   pub held : Held st W′
   pub header : headIn W′ ≡ headIn W
   pub holds : HoldsIndex (nodes st W′) (b .index)
@@ -37,4 +37,4 @@ pub record Batches (st : Settings) (W W′ : List ℕ) (x : Index) (b : Batched)
   pub spared : Spared (nodes st W′) (r .root .spare)
 
 abbrev pub Changed : Settings → List ℕ → List ℕ → ℕ → Call → Ran → Type 0
-Changed st W W′ h c r = let x = indexAt (st .root) (nodes st W) h in Batches st W W′ x (batch st (tasksOf c) x) r
+Changed st W W′ h c r = let x = indexAt (st .root) (nodes st W) h in IndexChanged st W W′ x (batch st (tasksOf c) x) r

@@ -1,4 +1,4 @@
--- What the survey of a pool promises. Assumes nothing.
+-- What the survey of a pool promises, and what the pass over its slots tells. Assumes nothing.
 use Prim.Native.Nat.{ℕ}
 use mathlib.Core.Path.{_≡_}
 use mathlib.Core.Bool.{true, false}
@@ -10,7 +10,13 @@ use Rattle.model.specs.Sound.{InLimits}
 use Rattle.slots_pool.specs.Header.{layoutNumber, layoutOf}
 use Rattle.tree.specs.Pool.{poolLen, givenIn, settingsIn, nodesIn, indexOf, SoundPool}
 use Rattle.tree_spare.specs.Spared.{Spared}
+use Rattle.slots_raw.specs.Slots.{rawAt}
+use Rattle.slots.specs.Nodes.{unusedKind, nodes, nth, unused, rawFor}
+use Rattle.model.specs.declared.Settings.{Settings}
 use Rattle.survey.specs.declared.Findings.{Findings}
+use Rattle.survey.specs.declared.spares.Spares.{Spares}
+
+-- THE SURVEY
 
 -- the answer where a pool is not sound
 abbrev pub unsound : Findings
@@ -36,3 +42,14 @@ pub record Headed (l : List ℕ) : Type 0 where
   pub layout : layoutOf (words l) ≡ layoutNumber
   pub settings : InLimits (settingsIn l)
   pub exact : length l ≡ poolLen (givenIn l)
+
+-- THE PASS OVER THE SLOTS
+
+-- an unused slot has nothing but zeros
+abbrev pub Idle : Settings → List ℕ → ℕ → Type 0
+Idle st W s = nth (nodes st W) s .kind ≡ unusedKind → rawAt st W s ≡ rawFor (st .rows) unused
+
+-- r tells whether every unused slot is so; if so, which they are
+pub record SlotsTold (st : Settings) (W : List ℕ) (r : Spares) : Type 0 where
+  pub ok : Tells (r .ok) ((s : ℕ) → Idle st W s)
+  pub spared : r .ok ≡ true → Spared (nodes st W) (r .spare)

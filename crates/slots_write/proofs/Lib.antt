@@ -1,0 +1,2 @@
+-- `Puts` has the laws of words replaced in a slot.
+pub mod Puts
