@@ -1,2 +1,2 @@
--- `Under` says what stands under a key, in the model's words, and how many keys are counted.
+-- `Under` says what stands under a key, in the model's words, whether the next key is due, and how many keys are counted.
 pub mod Under

@@ -1,8 +1,8 @@
-// What a wish does under a key, by what stands there; and what that adds to the counts.
+// What a wish does under a key, by what stands there; what that adds to the counts; and whether the next key is due.
 ghost use mathlib.Core.Path.{_≡_};
 ghost use mathlib.Core.Bool.{_||_};
 ghost use Rattle.model.specs.Plain.{act, met, effect, same, count, alters, referenceFor};
-ghost use Rattle.batch_effect.specs.Under.{optionOf, AtMost};
+ghost use Rattle.batch_effect.specs.Under.{optionOf, isDue, AtMost};
 use model::Action;
 use model::Counts;
 use model::Effect;
@@ -102,4 +102,15 @@ pub fn counted(c: Counts, e: Effect) -> Counts
         Effect::Remove => n.removed += 1,
     }
     n
+}
+
+// Whether there is a key `next`, and it does not exceed the ceiling.
+pub fn is_due(keys: &[u64], next: usize, ceiling: u64) -> bool
+    ensures { λ r. ⌜ r ≡ isDue (now (keys .entry)) next ceiling ⌝ }
+{
+    if next < keys.len() {
+        let key = keys[next];
+        return key <= ceiling;
+    }
+    false
 }

@@ -27,7 +27,8 @@ use Rattle.model.proofs.Plain.{step-sorted}
 use Rattle.tree.specs.Bridge.{entryOf, entryRow}
 use Rattle.tree.proofs.ReadOff.{entries-back}
 use Rattle.tree.proofs.SoundHolds.{rows-again}
-use Rattle.batch_effect.specs.Under.{AtMost}
+use Rattle.batch_effect.specs.Under.{isDue, AtMost}
+use Rattle.batch_effect.proofs.Dues.{due-within, due-low}
 use Rattle.batch_leaf.specs.declared.Run.{Run}
 use Rattle.batch_leaf.specs.declared.Subtree.{Subtree}
 use Rattle.batch_leaf.specs.Contracts.{ToTakeKey, ToWish, Underway, KeysTaken, KeyDone}
@@ -97,18 +98,21 @@ module _ {st : Settings} {W₀ W : List ℕ} {leaf : Subtree} {b : Call} {run : 
 
   -- the next key is taken
   module _ (q : goesOn (b .keys) next ceiling n (st .order) ≡ true) where
-    pub turn-within : next < length (b .keys)
-    turn-within = ltb-true _ _ (both-left (ltb next (length (b .keys))) (leb (getD (b .keys) next 0) ceiling && leb n (st .order)) q)
+    due-now : isDue (b .keys) next ceiling ≡ true
+    due-now = both-left (isDue (b .keys) next ceiling) (leb n (st .order)) q
 
-    turn-low : (leb (getD (b .keys) next 0) ceiling && leb n (st .order)) ≡ true
-    turn-low = both-right (ltb next (length (b .keys))) (leb (getD (b .keys) next 0) ceiling && leb n (st .order)) q
+    short-now : leb n (st .order) ≡ true
+    short-now = both-right (isDue (b .keys) next ceiling) (leb n (st .order)) q
+
+    pub turn-within : next < length (b .keys)
+    turn-within = due-within (b .keys) next ceiling due-now
 
     pub turn-leaf : ToTakeKey st W s
     turn-leaf = record {
       held = t .did .held;
       slot = t .slot;
       sorted = t .sorted;
-      few = leb-true _ _ (both-right (leb (getD (b .keys) next 0) ceiling) (leb n (st .order)) turn-low);
+      few = leb-true _ _ short-now;
     }
 
     pub turn-lent : ToWish (b .operation) (b .places) (b .sizes) (next + 1)
@@ -124,7 +128,7 @@ module _ {st : Settings} {W₀ W : List ℕ} {leaf : Subtree} {b : Call} {run : 
           ap (λ (l : List Task). takes st W leaf l changed c us)
           (task-next b next (turn-within) (t .batch .lent)
           ∙ ap (λ (w : Wish). record { key = getD (b .keys) next 0; wish = w } ∷ drop (suc next) ts) (sym asked))
-          ∙ rw (length-map (rowsAt st W s) entryOf, turn-low) refl
+          ∙ rw (length-map (rowsAt st W s) entryOf, due-low (b .keys) next ceiling due-now, short-now) refl
 
       pub turn-on : {W′ : List ℕ} {d : Effect} {changed′ : Bool} {c′ : Counts} → KeyDone st W W′ s task d → changed′ ≡ (changed || alters d)
           → c′ ≡ count d c → Turn st W₀ W′ leaf b run changed′ (record { next = next + 1; counts = c′; spare = now .spare })
@@ -161,7 +165,7 @@ module _ {st : Settings} {W₀ W : List ℕ} {leaf : Subtree} {b : Call} {run : 
     stops-by : (us : List ℕ) (v : Bool) → ltb next (length (b .keys)) ≡ v → takes st W leaf (drop next ts) changed c us ≡ stopped us
     stops-by us true e =
         let r : (leb (getD (b .keys) next 0) ceiling && leb n (st .order)) ≡ false =
-        sym (ap (λ (v : Bool). v && (leb (getD (b .keys) next 0) ceiling && leb n (st .order))) e) ∙ q in
+        sym (ap (λ (v : Bool). (v && leb (getD (b .keys) next 0) ceiling) && leb n (st .order)) e) ∙ q in
         rw (task-next b next (ltb-true _ _ e) (t .batch .lent), length-map (rowsAt st W s) entryOf, r) refl
     stops-by us false e = rw (task-none b next (ltb-false _ _ e)) refl
 

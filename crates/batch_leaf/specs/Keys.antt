@@ -3,7 +3,7 @@ use Prim.Native.Nat.{ℕ, max}
 use mathlib.Core.Bool.{false, Bool, _&&_}
 use mathlib.Core.List.{List, map, [], _∷_}
 use lib.ListN.{length, drop, getD, set}
-use lib.Dec.{ltb, leb}
+use lib.Dec.{leb}
 use Rattle.slots.specs.Nodes.{rowsAt, putIn, without}
 use Rattle.model.specs.declared.Settings.{Settings}
 use Rattle.model.specs.declared.Entry.{Entry}
@@ -22,6 +22,7 @@ use Rattle.slots_find.specs.declared.Found.the-variants as F
 use Rattle.slots_raw.specs.Slots.{blank}
 use Rattle.model.specs.declared.Effect.{Effect}
 use Rattle.model.specs.declared.Effect.the-variants.{Leave, Add, Replace, Remove}
+use Rattle.batch_effect.specs.Under.{isDue}
 use Rattle.batch_effect.specs.declared.Presence.{Presence}
 use Rattle.batch_effect.specs.declared.Presence.the-variants as P
 use Rattle.batch_leaf.specs.declared.Run.{Run}
@@ -43,7 +44,7 @@ taskAt b i = record { key = getD (b .keys) i 0; wish = wishAt (b .operation) (b 
 
 -- what stands where a key was found among the rows l
 abbrev pub presenceAt : List Row → Found → Presence
-presenceAt l (F.At i) = P.Held (getD l i blank .body) (getD l i blank .size)
+presenceAt l (F.At i) = let e = entryOf (getD l i blank) in P.Held (e .place) (e .size)
 presenceAt l (F.Before i) = P.Absent
 
 -- the row where a key was found, or before which it would stand
@@ -62,9 +63,9 @@ performed l i k Remove = without l i 1
 
 -- WHAT IS TAKEN
 
--- the next key is taken: there is one, it does not exceed the ceiling, and the n entries do not exceed the limit
+-- the next key is taken: it is due, and the n entries do not exceed the limit
 abbrev pub goesOn : List ℕ → ℕ → ℕ → ℕ → ℕ → Bool
-goesOn ks next ceiling n limit = ltb next (length ks) && (leb (getD ks next 0) ceiling && leb n limit)
+goesOn ks next ceiling n limit = isDue ks next ceiling && leb n limit
 
 -- what the model's leaf takes of the tasks from the next one on, with any unused slots
 abbrev pub taking : Settings → List ℕ → Subtree → Call → Run → List ℕ → Walked Entry

@@ -17,6 +17,7 @@ mod key; // one key in a leaf
 
 use batch_effect::altered;
 use batch_effect::counted;
+use batch_effect::is_due;
 use key::change_key;
 use model::Action;
 use model::Counts;
@@ -81,12 +82,9 @@ fn takes(pool: &[u8], st: Settings, s: usize, keys: &[u64], next: usize, ceiling
     requires { ⌜ ToTouch st (words (now pool)) s ⌝ }
     ensures { λ r. ⌜ r ≡ goesOn (now (keys .entry)) next ceiling (length (rowsAt st (words (now (pool .entry))) s)) (st .order) ⌝ }
 {
-    if next < keys.len() {
-        let key = keys[next];
-        if key <= ceiling {
-            let n = slots::count(pool, st, s);
-            return n <= st.order;
-        }
+    if is_due(keys, next, ceiling) {
+        let n = slots::count(pool, st, s);
+        return n <= st.order;
     }
     false
 }

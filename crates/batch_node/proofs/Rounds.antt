@@ -1,11 +1,11 @@
 -- The rounds of interior change: from the values of the code to the walk over nodes, and back. Assumes nothing.
 use mathlib.Core.Path.{_≡_, refl, sym, ap, _∙_, subst}
-use mathlib.Core.Bool.{Bool, true, false, _||_, _&&_, true≢false}
+use mathlib.Core.Bool.{Bool, true, false, _||_, true≢false}
 use mathlib.Core.List.{List, [], _∷_, _++_, map, reverseAux}
 use Prim.Native.Nat.{ℕ, suc, _+_, _≤_, _<_}
 use native.Mathlib.Omega.{arith}
 use native.Mathlib.Decide.{decLt}
-use lib.Dec.{ltb, leb}
+use lib.Dec.{ltb}
 use lib.ListN.{length, getD, drop, length-map, length-drop, length-append, length-reverseAux}
 use borrow.Author.Tests.{lt-ltb, ltb-true, leb-true}
 use Rattle.slots_raw.specs.declared.Row.{Row}
@@ -25,6 +25,8 @@ use Rattle.model.specs.Sound.{InLimits}
 use Rattle.model.specs.Contracts.{flat, joined, back, Says, takes}
 use Rattle.model.proofs.Lists.{both-left, both-right, all-head}
 use Rattle.model.proofs.Trees.{flat-three, flat-joined, back-joined}
+use Rattle.batch_effect.specs.Under.{isDue}
+use Rattle.batch_effect.proofs.Dues.{due-within, due-low}
 use Rattle.batch_leaf.specs.declared.Run.{Run}
 use Rattle.batch_leaf.specs.declared.Subtree.{Subtree}
 use Rattle.batch_leaf.specs.Contracts.{Underway}
@@ -123,17 +125,17 @@ module _ {st : Settings} {W₀ W : List ℕ} {h : ℕ} {node : Subtree} {b : Cal
 
   -- THE TEST IS MET
   module _ (q : roams (b .keys) (run .next) (node .ceiling) i (length (rowsAt st W (node .slot))) ≡ true) where
-    later : (leb (getD (b .keys) (run .next) 0) (node .ceiling) && ltb i (length (rowsAt st W (node .slot)))) ≡ true
-    later = both-right (ltb (run .next) (length (b .keys))) (leb (getD (b .keys) (run .next) 0) (node .ceiling) && ltb i (length (rowsAt st W (node .slot)))) q
+    due-now : isDue (b .keys) (run .next) (node .ceiling) ≡ true
+    due-now = both-left (isDue (b .keys) (run .next) (node .ceiling)) (ltb i (length (rowsAt st W (node .slot)))) q
 
     pub next-in : run .next < length (b .keys)
-    next-in = ltb-true _ _ (both-left (ltb (run .next) (length (b .keys))) (leb (getD (b .keys) (run .next) 0) (node .ceiling) && ltb i (length (rowsAt st W (node .slot)))) q)
+    next-in = due-within (b .keys) (run .next) (node .ceiling) due-now
 
     pub child-in : i < length (rowsAt st W (node .slot))
-    child-in = ltb-true _ _ (both-right (leb (getD (b .keys) (run .next) 0) (node .ceiling)) (ltb i (length (rowsAt st W (node .slot)))) later)
+    child-in = ltb-true _ _ (both-right (isDue (b .keys) (run .next) (node .ceiling)) (ltb i (length (rowsAt st W (node .slot)))) q)
 
     key-low : getD (b .keys) (run .next) 0 ≤ node .ceiling
-    key-low = leb-true _ _ (both-left (leb (getD (b .keys) (run .next) 0) (node .ceiling)) (ltb i (length (rowsAt st W (node .slot)))) later)
+    key-low = leb-true _ _ (due-low (b .keys) (run .next) (node .ceiling) due-now)
 
     abbrev first : Task
     first = taskAt b (run .next)

@@ -13,6 +13,7 @@ use Rattle.model.specs.declared.Settings.{Settings}
 use Rattle.model.specs.declared.ChangeResult.the-variants.{Changed, Absorb, Split}
 use Rattle.model.specs.Change.{resultOf, isChange, ceilingFor}
 use Rattle.model.specs.declared.ChangeResult.{ChangeResult}
+use Rattle.batch_effect.proofs.Dues.{due}
 use Rattle.batch_seek.specs.Seek.{roams}
 
 -- A NODE'S RESULT
@@ -55,10 +56,4 @@ low-ceiling separator k ceiling h g = rw (le-ltb separator k h) (omega arith)
 -- THE TEST
 
 pub roams-yes : (ks : List ℕ) (next ceiling i n : ℕ) → next < length ks → getD ks next 0 ≤ ceiling → ltb i n ≡ roams ks next ceiling i n
-roams-yes ks next ceiling i n h g = rw (lt-ltb next (length ks) h, le-leb (getD ks next 0) ceiling g)
-
-pub roams-high : (ks : List ℕ) (next ceiling i n : ℕ) → next < length ks → ceiling < getD ks next 0 → false ≡ roams ks next ceiling i n
-roams-high ks next ceiling i n h g = rw (lt-ltb next (length ks) h, lt-leb (getD ks next 0) ceiling g)
-
-pub roams-none : (ks : List ℕ) (next ceiling i n : ℕ) → length ks ≤ next → false ≡ roams ks next ceiling i n
-roams-none ks next ceiling i n h = rw (le-ltb next (length ks) h)
+roams-yes ks next ceiling i n h g = rw (due ks next ceiling h g)

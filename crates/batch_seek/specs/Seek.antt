@@ -2,9 +2,9 @@
 use Prim.Native.Nat.{ℕ}
 use mathlib.Core.Bool.{Bool, _&&_}
 use mathlib.Core.List.{List}
-use lib.ListN.{length, getD}
-use lib.Dec.{ltb, leb}
+use lib.Dec.{ltb}
+use Rattle.batch_effect.specs.Under.{isDue}
 
--- a key is left, it does not exceed the ceiling, and of n children there is one from i on
+-- the next key is due, and of n children there is one from i on
 abbrev pub roams : List ℕ → ℕ → ℕ → ℕ → ℕ → Bool
-roams ks next ceiling i n = ltb next (length ks) && (leb (getD ks next 0) ceiling && ltb i n)
+roams ks next ceiling i n = isDue ks next ceiling && ltb i n

@@ -7,6 +7,7 @@ ghost use Rattle.slots.specs.Nodes.{rowsAt};
 ghost use Rattle.slots.specs.Contracts.{ToTouch};
 ghost use Rattle.model.specs.Change.{resultOf, isChange, ceilingFor};
 ghost use Rattle.batch_seek.specs.Seek.{roams};
+use batch_effect::is_due;
 use model::ChangeResult;
 use model::Settings;
 
@@ -23,12 +24,9 @@ pub fn roams_on(
     requires { ⌜ ToTouch st (words (now pool)) s ⌝ }
     ensures { λ r. ⌜ r ≡ roams (now (keys .entry)) next ceiling i (length (rowsAt st (words (now (pool .entry))) s)) ⌝ }
 {
-    if next < keys.len() {
-        let key = keys[next];
-        if key <= ceiling {
-            let n = slots::count(pool, st, s);
-            return i < n;
-        }
+    if is_due(keys, next, ceiling) {
+        let n = slots::count(pool, st, s);
+        return i < n;
     }
     false
 }

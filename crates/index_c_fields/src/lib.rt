@@ -1,6 +1,5 @@
 // A frame that was read, as C has it: a buffer for each field of its places, which a refusal leaves as they were.
 ghost use mathlib.Core.Path.{_≡_};
-ghost use Rattle.frame_text.specs.Entries.{headerOf};
 ghost use Rattle.index_c_told.specs.Told.{Reports};
 ghost use Rattle.index_c_fields.specs.Fields.{contentsTold, fieldsOf, wideOf, narrowOf};
 use frame_text::Contents;
@@ -8,6 +7,7 @@ use frame_text::FrameEntry;
 use frame_text::Kind;
 use frame_text::ReadAnswer;
 use frame_text::Reading;
+use frame_text::header;
 
 pub fn tell_reading(
     reading: Reading,
@@ -92,15 +92,6 @@ fn put_contents(
     *narrow = low;
     *live = alive;
     *dead = gone;
-}
-
-fn header(kind: Kind) -> u64
-    ensures { λ r. ⌜ r ≡ headerOf kind ⌝ }
-{
-    match kind {
-        Kind::Leaf => 1,
-        Kind::Interior => 0,
-    }
 }
 
 // The place of a leaf's entry, the size sum of an interior's.

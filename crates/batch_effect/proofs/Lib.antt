@@ -1,0 +1,2 @@
+-- `Dues` has the laws of the key that is due.
+pub mod Dues
