@@ -23,6 +23,7 @@ use Rattle.model.specs.Sound.{Fits, Alone}
 use Rattle.model.proofs.Lists.{all-head}
 use Rattle.tree.specs.Bridge.{entryOf, childOf, childTotals, rowFor, treeAt}
 use Rattle.tree.specs.Pool.{nodesOf, SoundPool, settingsIn, indexOf}
+use Rattle.tree.specs.Contracts.{InPool}
 use Rattle.tree.proofs.Sums.{child-total}
 use Rattle.tree.proofs.Few.{used-few, entries-most, slots-low}
 use Rattle.tree.proofs.Fitting.{nodesOf-fit}
@@ -167,13 +168,16 @@ module _ (l : List ℕ) (s : SoundPool l) where
       }
 
 -- the same of settings and a height that are the pool's own
-module _ (l : List ℕ) (s : SoundPool l) (st : Settings) (h : ℕ) (es : st ≡ settingsIn l) (eh : h ≡ indexOf l .height) where
+module _ (l : List ℕ) (st : Settings) (h : ℕ) (k : InPool l st h) where
   pub node-standing : ToFind st (words l) h (st .root)
   node-standing =
-      subst (λ (x : Settings). ToFind x (words l) h (x .root)) (sym es) (subst (λ (y : ℕ). ToFind (settingsIn l) (words l) y (settingsIn l .root)) (sym eh) (sound-standing l s))
+      subst (λ (x : Settings). ToFind x (words l) h (x .root)) (sym (k .own))
+      (subst (λ (y : ℕ). ToFind (settingsIn l) (words l) y (settingsIn l .root)) (sym (k .tall)) (sound-standing l (k .sound)))
 
   own : (i : ℕ) (r : Found) → Located st (words l) h (st .root) i r → Located (settingsIn l) (words l) (indexOf l .height) (settingsIn l .root) i r
-  own i r f = subst (λ (y : ℕ). Located (settingsIn l) (words l) y (settingsIn l .root) i r) eh (subst (λ (x : Settings). Located x (words l) h (x .root) i r) es f)
+  own i r f =
+      subst (λ (y : ℕ). Located (settingsIn l) (words l) y (settingsIn l .root) i r) (k .tall)
+      (subst (λ (x : Settings). Located x (words l) h (x .root) i r) (k .own) f)
 
   -- there is no node i
   pub node-none : (i left : ℕ) (line : List ℕ) → Located st (words l) h (st .root) i (Left left)
@@ -195,8 +199,8 @@ module _ (l : List ℕ) (s : SoundPool l) (st : Settings) (h : ℕ) (es : st ≡
       let z : 0 + i ≡ i = omega arith in
       let same : frameOf c ≡ frameAt g i (treeAt (nodes st (words l)) g t) = ap frameOf e ∙ frame-contents x in
       let there : getElem? (framesOf (indexOf l)) i ≡ some (frameAt g i (treeAt (nodes st (words l)) g t)) =
-      own i (Node t g) f .1 .1 0 ∙ ap (λ (k : ℕ). some (frameAt g k (treeAt (nodes (settingsIn l) (words l)) g t))) z
-      ∙ ap (λ (y : Settings). some (frameAt g i (treeAt (nodes y (words l)) g t))) (sym es) in
+      own i (Node t g) f .1 .1 0 ∙ ap (λ (j : ℕ). some (frameAt g j (treeAt (nodes (settingsIn l) (words l)) g t))) z
+      ∙ ap (λ (y : Settings). some (frameAt g i (treeAt (nodes y (words l)) g t))) (sym (k .own)) in
       subst (λ (a : Answer (List ℕ)). Writes a line r after)
       (ap (λ (y : Frame). fitted (length line) (lineOf y)) same ∙ sym (ap (written (length line)) there)) w
 

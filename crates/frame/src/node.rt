@@ -7,7 +7,8 @@ ghost use Rattle.slots_raw.specs.Slots.{blank};
 ghost use Rattle.slots.specs.Nodes.{nodes, rowsAt};
 ghost use Rattle.model.specs.Frame.{writeNode, nodesIn};
 ghost use Rattle.tree.specs.Bridge.{treeAt};
-ghost use Rattle.tree.specs.Pool.{SoundPool, settingsIn, indexOf};
+ghost use Rattle.tree.specs.Pool.{indexOf};
+ghost use Rattle.tree.specs.Contracts.{InPool};
 ghost use Rattle.frame_text.specs.Contents.{contentsOf};
 ghost use Rattle.frame_text.specs.Answers.{Writes};
 ghost use Rattle.frame.specs.Contracts.{ToFind};
@@ -35,9 +36,7 @@ pub fn write_node(
     i: usize,
     line: &mut [u8],
 ) -> WriteAnswer
-    requires sound { ⌜ SoundPool (now pool) ⌝ }
-    requires own { ⌜ st ≡ settingsIn (now pool) ⌝ }
-    requires tall { ⌜ height ≡ indexOf (now pool) .height ⌝ }
+    requires { ⌜ InPool (now pool) st height ⌝ }
     ensures { λ r.
         ⌜ Writes (writeNode i (length (now (line .entry))) (indexOf (now (pool .entry)))) (now (line .entry)) r (now (line .exit)) ⌝ }
 {

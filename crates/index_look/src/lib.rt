@@ -8,6 +8,7 @@ use index_promise::TotalsAnswer;
 use index_refuse::descends;
 use model::Bound;
 use model::Direction;
+use model::Request;
 use model::Sift;
 
 // The number of live entries, of dead ones, and the sum of the sizes of all. Refused as 2.
@@ -55,7 +56,13 @@ pub fn scan(
         return ScanAnswer::Refused(2);
     }
     let st = found.settings;
-    let s = look::scan(pool, st, found.height, start, end, direction, sift, out);
+    let q = Request {
+        start,
+        end,
+        direction,
+        sift,
+    };
+    let s = look::scan(pool, st, found.height, q, out);
     ScanAnswer::Done(s)
 }
 

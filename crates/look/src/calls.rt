@@ -2,21 +2,18 @@
 // has read them when it tested the pool.
 ghost use mathlib.Core.Path.{_≡_};
 ghost use Rattle.model.specs.Tree.{totalsOf};
-ghost use Rattle.model.specs.Look.{getAll, requestFor};
+ghost use Rattle.model.specs.Look.{getAll};
 ghost use Rattle.model.specs.Look as look;
 ghost use Rattle.tree.specs.Pool.{indexOf};
-ghost use Rattle.look_output.specs.Output.{roomIn};
 ghost use Rattle.tree.specs.Contracts.{InPool};
+ghost use Rattle.look_output.specs.Output.{roomIn};
 ghost use Rattle.look.specs.Contracts.{Written};
 use crate::lookup::get_keys;
 use look_output::Listed;
 use look_output::Scanned;
 use look_scan::scan_node;
-use model::Bound;
-use model::Direction;
 use model::Request;
 use model::Settings;
-use model::Sift;
 use model::Totals;
 
 // The totals of the whole tree.
@@ -39,29 +36,13 @@ pub fn get(pool: &[u8], st: Settings, height: usize, keys: &[u64], out: &mut [u8
 }
 
 // Lists the live entries in a range, up or down, and tells how many nodes it opened.
-pub fn scan(
-    pool: &[u8],
-    st: Settings,
-    height: usize,
-    start: Bound,
-    end: Bound,
-    direction: Direction,
-    sift: Sift,
-    out: &mut [u8],
-) -> Scanned
+pub fn scan(pool: &[u8], st: Settings, height: usize, q: Request, out: &mut [u8]) -> Scanned
     requires { ⌜ InPool (now pool) st height ⌝ }
     ensures written { λ r.
-        ⌜ Written (look.scan (requestFor start end direction sift) (roomIn (now (out .entry))) (indexOf (now (pool .entry))) .listed)
-        (now (out .entry)) (r .written) (r .more) (now (out .exit)) ⌝ }
-    ensures opened { λ r.
-        ⌜ r .opened ≡ look.scan (requestFor start end direction sift) (roomIn (now (out .entry))) (indexOf (now (pool .entry))) .opened ⌝ }
+        ⌜ Written (look.scan q (roomIn (now (out .entry))) (indexOf (now (pool .entry))) .listed) (now (out .entry)) (r .written) (r .more)
+        (now (out .exit)) ⌝ }
+    ensures opened { λ r. ⌜ r .opened ≡ look.scan q (roomIn (now (out .entry))) (indexOf (now (pool .entry))) .opened ⌝ }
 {
-    let q = Request {
-        start,
-        end,
-        direction,
-        sift,
-    };
     let w = Scanned {
         written: 0,
         more: false,

@@ -13,8 +13,7 @@ returns c =
 write-node-requires : tie.Need-write-node-requires
 write-node-requires c κs =
     let checked = c .before .before in
-    let p = in-pool (checked .before .before .survey .ensures) (checked .if1 .left) in
-    (p .sound, (p .own, p .tall))
+    in-pool (checked .before .before .survey .ensures) (checked .if1 .left)
 
 returns-2 : tie.Need-returns-2
 returns-2 c =

@@ -12,7 +12,7 @@ use Rattle.frame.proofs.node.write_node.Tie as tie
 find-requires : tie.Need-find-requires
 find-requires c κs =
     let start = c .before .before in
-    node-standing (start .args .pool .now) (start .pre .0) (start .args .st) (start .args .height) (start .pre .1 .0) (start .pre .1 .1)
+    node-standing (start .args .pool .now) (start .args .st) (start .args .height) (start .pre)
 
 -- the walk stands at node i
 found : (c : tie.After-s) →
@@ -30,7 +30,7 @@ contents-at-requires c κs =
     let a = start .args in
     let node = there .s .given .0 in (
       found there .0,
-      node-low (a .pool .now) (start .pre .0) (a .st) (a .height) (start .pre .1 .0) (start .pre .1 .1) (a .i) (node .0) (node .1 .0) (found there),
+      node-low (a .pool .now) (a .st) (a .height) (start .pre) (a .i) (node .0) (node .1 .0) (found there),
     )
 
 put-frame-requires : tie.Need-put-frame-requires
@@ -49,7 +49,7 @@ returns c =
     let start = there .before .before .before .before .before in
     let a = start .args in
     let node = there .s .given .0 in
-    node-written (a .pool .now) (start .pre .0) (a .st) (a .height) (start .pre .1 .0) (start .pre .1 .1) (a .i) (node .0) (node .1 .0)
+    node-written (a .pool .now) (a .st) (a .height) (start .pre) (a .i) (node .0) (node .1 .0)
     (read .result) (a .line .now) (put .last .1 .0) (put .result) (found there) (read .ensures) (put .ensures)
 
 returns-2 : tie.Need-returns-2
@@ -57,7 +57,7 @@ returns-2 c =
     let start = c .before .before .before .before .before in
     let a = start .args in
     let none = subst (λ (x : Found). Located (a .st) (words (a .pool .now)) (a .height) (a .st .root) (a .i) x) (c .enum-told .given .1) (c .before .before .find .ensures) in
-    node-none (a .pool .now) (start .pre .0) (a .st) (a .height) (start .pre .1 .0) (start .pre .1 .1) (a .i) (c .enum-told .given .0 .0) (a .line .now) none
+    node-none (a .pool .now) (a .st) (a .height) (start .pre) (a .i) (c .enum-told .given .0 .0) (a .line .now) none
 
 pub write-node-spec : {M : Type 1} → statement M
 write-node-spec =
