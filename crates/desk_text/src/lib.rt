@@ -5,9 +5,6 @@ ghost use lib.ListN.{length};
 ghost use Rattle.desk_text.specs.Texts.{over, spaced, doneText, refusedText};
 use model::Counts;
 
-// Room for any line that says `done` or `refused`: a word, four numbers of at most 20 digits, each behind a space, and a line feed.
-pub const ROOM: usize = 89;
-
 // Puts a text at a place, and answers the place behind it.
 pub fn put(bytes: &mut [u8], at: usize, text: &[u8]) -> usize
     requires { ⌜ at + length (now text) ≤ length (now bytes) ⌝ }

@@ -20,12 +20,12 @@ use Rattle.index_c_fields.specs.Fields.{Fields, frameFields}
 use Rattle.index_c.specs.Calls.{Kept, OpenCall, TotalsCall, BatchCall, GetCall, ScanCall, FrameCall, WriteCall, ReadCall}
 use Rattle.index_c_told.proofs.Reported.{one-report}
 
-pub one-pool-len : (st : PoolSettings) (r q : ℕ) → Where (InLimits (handed st)) (poolLen st) 0 r → Where (InLimits (handed st)) (poolLen st) 0 q → r ≡ q
-one-pool-len st r q = where-unique
+pub one-pool-len : (given : PoolSettings) (r q : ℕ) → Where (InLimits (handed given)) (poolLen given) 0 r → Where (InLimits (handed given)) (poolLen given) 0 q → r ≡ q
+one-pool-len given r q = where-unique
 
-pub one-open-call : (st : PoolSettings) (l k m : List ℕ) (r q : ℕ) → OpenCall st l r k → OpenCall st l q m → (r ≡ q) × (k ≡ m)
-one-open-call st l k m r q x y =
-    let u = one-opening st l k m (x .0) (y .0) (x .1 .0) (y .1 .0) in (x .1 .1 ∙ ap (λ (a : OpenAnswer). codeOf (opening a)) (u .0) ∙ sym (y .1 .1), u .1)
+pub one-open-call : (given : PoolSettings) (l k m : List ℕ) (r q : ℕ) → OpenCall given l r k → OpenCall given l q m → (r ≡ q) × (k ≡ m)
+one-open-call given l k m r q x y =
+    let u = one-opening given l k m (x .0) (y .0) (x .1 .0) (y .1 .0) in (x .1 .1 ∙ ap (λ (a : OpenAnswer). codeOf (opening a)) (u .0) ∙ sym (y .1 .1), u .1)
 
 pub one-totals-call : (l b b′ b″ : List ℕ) (r q : ℕ) → TotalsCall l b r b′ → TotalsCall l b q b″ → (r ≡ q) × (b′ ≡ b″)
 one-totals-call l b b′ b″ r q x y =

@@ -19,14 +19,14 @@ use Rattle.index_c_fields.specs.Fields.{Fields, fieldsOf, frameFields, contents
 
 -- THE LENGTH OF A POOL
 
-module _ (st : PoolSettings) (b : Bool) (t : Tells b (InLimits (handed st))) where
-  pub len-wrong : not b ≡ true → Where (InLimits (handed st)) (poolLen st) 0 0
+module _ (given : PoolSettings) (b : Bool) (t : Tells b (InLimits (handed given))) where
+  pub len-wrong : not b ≡ true → Where (InLimits (handed given)) (poolLen given) 0 0
   len-wrong e = fails (told-no t (not-true b e)) refl
 
-  pub len-limits : not b ≡ false → InLimits (handed st)
+  pub len-limits : not b ≡ false → InLimits (handed given)
   len-limits e = t .holds (not-false b e)
 
-  pub len-right : (n : ℕ) → not b ≡ false → n ≡ poolLen st → Where (InLimits (handed st)) (poolLen st) 0 n
+  pub len-right : (n : ℕ) → not b ≡ false → n ≡ poolLen given → Where (InLimits (handed given)) (poolLen given) 0 n
   len-right n e h = holds (len-limits e) h
 
 -- READING A FRAME

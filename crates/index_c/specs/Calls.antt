@@ -19,9 +19,9 @@ use Rattle.index_c_fields.specs.Fields.{Fields, frameFields}
 abbrev pub Kept : {R A B : Type 0} → (R → Type 0) → (R → Answer A) → (A → B) → B → ℕ → B → Type 0
 Kept {R = R} promise told f b r b′ = (a : R) × (promise a × Reports f (told a) b r b′)
 
--- OPENING a pool l with the settings st; there is no small buffer
+-- OPENING a pool l with the settings given; there is no small buffer
 abbrev pub OpenCall : PoolSettings → List ℕ → ℕ → List ℕ → Type 0
-OpenCall st l r l′ = (a : OpenAnswer) × (Opens st l a l′ × (r ≡ codeOf (opening a)))
+OpenCall given l r l′ = (a : OpenAnswer) × (Opens given l a l′ × (r ≡ codeOf (opening a)))
 
 -- of the pool l, and the small buffer b
 

@@ -35,11 +35,11 @@ use model::Sift;
 pub extern "C" fn alarm_pool_len(nodes: u64, order: u64, minimum: u64) -> u64
     ensures { λ r. ⌜ Where (InLimits (handed (settingsFor nodes order minimum))) (poolLen (settingsFor nodes order minimum)) 0 r ⌝ }
 {
-    let st = settings(nodes, order, minimum);
-    if !tree::in_limits(st) {
+    let given = settings(nodes, order, minimum);
+    if !tree::in_limits(given) {
         return 0;
     }
-    let n = tree::pool_len(st);
+    let n = tree::pool_len(given);
     n as u64
 }
 
@@ -48,8 +48,8 @@ pub extern "C" fn alarm_pool_len(nodes: u64, order: u64, minimum: u64) -> u64
 pub extern "C" fn alarm_open(pool: &mut [u8], nodes: u64, order: u64, minimum: u64) -> u32
     ensures { λ r. ⌜ OpenCall (settingsFor nodes order minimum) (now (pool .entry)) r (now (pool .exit)) ⌝ }
 {
-    let st = settings(nodes, order, minimum);
-    let answer = index::open(pool, st);
+    let given = settings(nodes, order, minimum);
+    let answer = index::open(pool, given);
     tell_open(answer)
 }
 

@@ -23,7 +23,7 @@ use model::Request;
 use model::Settings;
 use slots_raw::Row;
 
-pub mod query; // what a scan asks of a row
+mod query; // what a scan asks of a row
 
 // Scans the tree of this height in slot `s` (the Rust's `scan`).
 pub fn scan_node(

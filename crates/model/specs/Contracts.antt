@@ -1,4 +1,4 @@
--- The words in which the contracts of the inner crates (settle, change) speak: nodes side by side, what a child's result says of it and may
+-- The words in which the contracts of the inner crates of a batch speak: nodes side by side, what a child's result says of it and may
 -- take, and what is asked of a node and of the tasks that come to it. Assumes nothing.
 use mathlib.Core.Path.{_≡_}
 use mathlib.Core.Logic.{_⊎_}

@@ -51,7 +51,7 @@ pub fn layout(pool: &[u8]) -> u64
 }
 
 // Writes the header.
-pub fn write_header(pool: &mut [u8], given: PoolSettings)
+fn write_header(pool: &mut [u8], given: PoolSettings)
     requires { ⌜ headLen ≤ length (words (now pool)) ⌝ }
     ensures { λ _. ⌜ words (now (pool .exit)) ≡ headerOf given ++ drop headLen (words (now (pool .entry))) ⌝ }
 {

@@ -7,7 +7,6 @@ pub use blanks::tail_zero;
 pub use header::layout;
 pub use header::open_pool;
 pub use header::settings;
-pub use header::write_header;
 
 // The number of the layout that is described here: the first word of a header.
 pub const LAYOUT: u64 = 1;

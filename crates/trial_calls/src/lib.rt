@@ -50,12 +50,12 @@ fn call(pool: &mut [u8], kind: u64, args: &[u64]) -> Told {
 
 fn open(pool: &mut [u8], args: &[u64]) -> Told {
     fill(pool);
-    let st = PoolSettings {
+    let given = PoolSettings {
         nodes: at(args, 0) as usize,
         order: at(args, 1) as usize,
         minimum: at(args, 2) as usize,
     };
-    match index::open(pool, st) {
+    match index::open(pool, given) {
         OpenAnswer::Done => checked(pool, 0),
         OpenAnswer::Refused(n) => checked(pool, n),
     }

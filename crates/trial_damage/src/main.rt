@@ -34,7 +34,7 @@ struct Plan {
 // A new pool.
 fn empty() {
     let mut pool = [0u8; 1696];
-    let st = PoolSettings {
+    let given = PoolSettings {
         nodes: 8,
         order: 4,
         minimum: 2,
@@ -47,13 +47,13 @@ fn empty() {
         step: 1,
         dead: 0,
     };
-    attempt(&mut pool, st, none);
+    attempt(&mut pool, given, none);
 }
 
 // One leaf of four entries.
 fn lone_leaf() {
     let mut pool = [0u8; 1696];
-    let st = PoolSettings {
+    let given = PoolSettings {
         nodes: 8,
         order: 4,
         minimum: 1,
@@ -66,13 +66,13 @@ fn lone_leaf() {
         step: 3,
         dead: 2,
     };
-    attempt(&mut pool, st, four);
+    attempt(&mut pool, given, four);
 }
 
 // One leaf with the entry that is all zero.
 fn zero_entry() {
     let mut pool = [0u8; 1696];
-    let st = PoolSettings {
+    let given = PoolSettings {
         nodes: 8,
         order: 4,
         minimum: 1,
@@ -85,13 +85,13 @@ fn zero_entry() {
         step: 1,
         dead: 1,
     };
-    attempt(&mut pool, st, one);
+    attempt(&mut pool, given, one);
 }
 
 // The pool P of the cases.
 fn pool_p() {
     let mut pool = [0u8; 3360];
-    let st = PoolSettings {
+    let given = PoolSettings {
         nodes: 16,
         order: 4,
         minimum: 2,
@@ -104,12 +104,12 @@ fn pool_p() {
         step: 1,
         dead: 0,
     };
-    attempt(&mut pool, st, five);
+    attempt(&mut pool, given, five);
 }
 
 fn two_levels() {
     let mut pool = [0u8; 4128];
-    let st = PoolSettings {
+    let given = PoolSettings {
         nodes: 16,
         order: 5,
         minimum: 3,
@@ -122,12 +122,12 @@ fn two_levels() {
         step: 3,
         dead: 4,
     };
-    attempt(&mut pool, st, some);
+    attempt(&mut pool, given, some);
 }
 
 fn three_levels() {
     let mut pool = [0u8; 25632];
-    let st = PoolSettings {
+    let given = PoolSettings {
         nodes: 64,
         order: 8,
         minimum: 4,
@@ -140,12 +140,12 @@ fn three_levels() {
         step: 3,
         dead: 5,
     };
-    attempt(&mut pool, st, many);
+    attempt(&mut pool, given, many);
 }
 
 // Opens a pool, sets the keys of a plan, and damages it.
-fn attempt(pool: &mut [u8], st: PoolSettings, p: Plan) {
-    if !opened(pool, st) {
+fn attempt(pool: &mut [u8], given: PoolSettings, p: Plan) {
+    if !opened(pool, given) {
         say(b" not opened\n");
         return;
     }
@@ -154,7 +154,7 @@ fn attempt(pool: &mut [u8], st: PoolSettings, p: Plan) {
         say(b", not sound at first\n");
         return;
     }
-    let t = damage(pool, st.nodes, st.order);
+    let t = damage(pool, given.nodes, given.order);
     report(pool.len() / 8, t);
     if sound(pool) {
         say(b"; sound again\n");
@@ -163,8 +163,8 @@ fn attempt(pool: &mut [u8], st: PoolSettings, p: Plan) {
     }
 }
 
-fn opened(pool: &mut [u8], st: PoolSettings) -> bool {
-    match index::open(pool, st) {
+fn opened(pool: &mut [u8], given: PoolSettings) -> bool {
+    match index::open(pool, given) {
         OpenAnswer::Done => true,
         OpenAnswer::Refused(_) => false,
     }
