@@ -51,7 +51,8 @@ pub record ToChange (st : Settings) (W : List ℕ) (h : ℕ) (node : Subtree) (b
   pub batch : Underway b run
 
 -- WHAT IS ANSWERED: the model's outcome o, and every slot in use outside the tree as it was
-pub record Answers (h : ℕ) (ns ms : List S.Node) (t : Tree h) (o : Outcome (Tree h)) (ts : List Task) (r : ChangeResult) (c : Counts) : Type 0 where
+pub record Answers (h : ℕ) (ns ms : List S.Node) (t : Tree h) (o : Outcome (Tree h)) (ts : List Task) (r : ChangeResult)
+    (c : Counts) : Type 0 where
   pub holds : Holds ms h (o .node)
   pub unused : unusedOf ms ≡ o .run .unused
   pub frame : Frame ns ms (slots (suc h) t)
@@ -65,7 +66,7 @@ pub record NodeChanged (st : Settings) (W W′ : List ℕ) (h : ℕ) (node : Sub
   pub header : headIn W′ ≡ headIn W
   pub answers :
       let t = treeAt (nodes st W) h (node .slot) in
-      Answers h (nodes st W) (nodes st W′) t (change st h (node .ceiling) t (drop (run .next) (tasksOf b)) (runOf (nodes st W) (run .counts)))
-      (drop (r .run .next) (tasksOf b)) (r .result) (r .run .counts)
+      let o = change st h (node .ceiling) t (drop (run .next) (tasksOf b)) (runOf (nodes st W) (run .counts)) in
+      Answers h (nodes st W) (nodes st W′) t o (drop (r .run .next) (tasksOf b)) (r .result) (r .run .counts)
   pub batch : Underway b (r .run)
   pub spared : Spared (nodes st W′) (r .run .spare)

@@ -74,10 +74,11 @@ pub record Focus (st : Settings) (W : List ℕ) (h s i : ℕ) (before : List (Tr
 
 -- .. as the pool has them
 abbrev pub ToFocus : Settings → List ℕ → ℕ → ℕ → ℕ → Type 0
-ToFocus st W h s i = Focus st W h s i (beforeAt (nodes st W) h s i) (childAt (nodes st W) h s i) (afterAt (nodes st W) h s i)
+ToFocus st W h s i = let ns = nodes st W in Focus st W h s i (beforeAt ns h s i) (childAt ns h s i) (afterAt ns h s i)
 
 -- .. among stocked siblings, and may take k more slots
-pub record Poise (st : Settings) (W : List ℕ) (h s i : ℕ) (spare : Spare) (k : ℕ) (before : List (Tree h)) (c : Tree h) (after : List (Tree h)) : Type 0 where
+pub record Poise (st : Settings) (W : List ℕ) (h s i : ℕ) (spare : Spare) (k : ℕ) (before : List (Tree h)) (c : Tree h)
+    (after : List (Tree h)) : Type 0 where
   pub family : Family st W h s (reverseAux before (c ∷ after))
   pub at : i ≡ length before
   pub stocked-before : All (Stocked st) before
@@ -88,7 +89,7 @@ pub record Poise (st : Settings) (W : List ℕ) (h s i : ℕ) (spare : Spare) (k
 
 -- .. as the pool has them
 abbrev pub ToStep : Settings → List ℕ → ℕ → ℕ → ℕ → Spare → ℕ → Type 0
-ToStep st W h s i spare k = Poise st W h s i spare k (beforeAt (nodes st W) h s i) (childAt (nodes st W) h s i) (afterAt (nodes st W) h s i)
+ToStep st W h s i spare k = let ns = nodes st W in Poise st W h s i spare k (beforeAt ns h s i) (childAt ns h s i) (afterAt ns h s i)
 
 -- p and c are children i and i + 1
 pub record Beside (st : Settings) (W : List ℕ) (h s i : ℕ) (before : List (Tree h)) (p c : Tree h) (after : List (Tree h)) : Type 0 where
@@ -98,7 +99,7 @@ pub record Beside (st : Settings) (W : List ℕ) (h s i : ℕ) (before : List (T
 -- .. as the pool has them
 abbrev pub Neighbours : Settings → List ℕ → ℕ → ℕ → ℕ → Type 0
 Neighbours st W h s i =
-    Beside st W h s i (beforeAt (nodes st W) h s i) (childAt (nodes st W) h s i) (childAt (nodes st W) h s (i + 1)) (afterAt (nodes st W) h s (i + 1))
+    let ns = nodes st W in Beside st W h s i (beforeAt ns h s i) (childAt ns h s i) (childAt ns h s (i + 1)) (afterAt ns h s (i + 1))
 
 -- node c has the minimum to hand over from, and node t at most order rows
 pub record ToHand (st : Settings) (W : List ℕ) (c t : ℕ) : Type 0 where
@@ -126,7 +127,8 @@ pub record Loose (h s : ℕ) (ns : List S.Node) (before : List (Tree h)) (old ne
   pub apart : Apart (suc h) (inner h s (reverseAux before (new ∷ after)))
 
 -- .. with the result v, among stocked siblings
-pub record Pend (st : Settings) (W : List ℕ) (h s i : ℕ) (spare : Spare) (v : ChangeResult) (before : List (Tree h)) (new : Tree h) (after : List (Tree h)) : Type 0 where
+pub record Pend (st : Settings) (W : List ℕ) (h s i : ℕ) (spare : Spare) (v : ChangeResult) (before : List (Tree h)) (new : Tree h)
+    (after : List (Tree h)) : Type 0 where
   pub held : Held st W
   pub within : i < length (rowsAt st W s)
   -- a split adds a row
@@ -148,7 +150,7 @@ pub record Pend (st : Settings) (W : List ℕ) (h s i : ℕ) (spare : Spare) (v 
 
 -- .. as the pool has them
 abbrev pub ToSettle : Settings → List ℕ → ℕ → ℕ → ℕ → Spare → ChangeResult → Type 0
-ToSettle st W h s i spare v = Pend st W h s i spare v (beforeAt (nodes st W) h s i) (childAt (nodes st W) h s i) (afterAt (nodes st W) h s i)
+ToSettle st W h s i spare v = let ns = nodes st W in Pend st W h s i spare v (beforeAt ns h s i) (childAt ns h s i) (afterAt ns h s i)
 
 -- WHAT IS PROMISED
 
@@ -160,7 +162,8 @@ pub record Settled (h s : ℕ) (ns ms : List S.Node) (kids : List (Tree h)) (p :
   pub empty : Blank ms
 
 -- .. as the model settles the result v
-pub record Ended (st : Settings) (W W′ : List ℕ) (h s : ℕ) (v : ChangeResult) (r : Standing) (kids before : List (Tree h)) (new : Tree h) (after : List (Tree h)) : Type 0 where
+pub record Ended (st : Settings) (W W′ : List ℕ) (h s : ℕ) (v : ChangeResult) (r : Standing) (kids before : List (Tree h)) (new : Tree h)
+    (after : List (Tree h)) : Type 0 where
   pub held : Held st W′
   pub header : headIn W′ ≡ headIn W
   pub settled : Settled h s (nodes st W) (nodes st W′) kids (settle st v before new after (unusedOf (nodes st W)))
@@ -170,7 +173,8 @@ pub record Ended (st : Settings) (W W′ : List ℕ) (h s : ℕ) (v : ChangeResu
 
 -- .. of child i, as the pool had it
 abbrev pub ChildSettled : Settings → List ℕ → List ℕ → ℕ → ℕ → ℕ → ChangeResult → Standing → Type 0
-ChildSettled st W W′ h s i v r = Ended st W W′ h s v r (kidsAt (nodes st W) h s) (beforeAt (nodes st W) h s i) (childAt (nodes st W) h s i) (afterAt (nodes st W) h s i)
+ChildSettled st W W′ h s i v r =
+    let ns = nodes st W in Ended st W W′ h s v r (kidsAt ns h s) (beforeAt ns h s i) (childAt ns h s i) (afterAt ns h s i)
 
 -- the pool holds the place p
 pub record Came (st : Settings) (W W′ : List ℕ) (h s : ℕ) (kids : List (Tree h)) (p : Place (Tree h)) : Type 0 where

@@ -16,7 +16,8 @@ BatchRefused st height unused c r = (x : Index) → x .height ≡ height → len
 -- r is the tree's refusal of any batch of n keys by this operation, whatever index has this height and so many unused nodes
 abbrev pub TreeRefused : ℕ → ℕ → Operation → ℕ → ℕ → Type 0
 TreeRefused height unused op n r =
-    (c : Call) (x : Index) → c .operation ≡ op → length (c .keys) ≡ n → x .height ≡ height → length (x .unused) ≡ unused → r ≡ treeRefusal c x
+    (c : Call) (x : Index) → c .operation ≡ op → length (c .keys) ≡ n → x .height ≡ height → length (x .unused) ≡ unused
+    → r ≡ treeRefusal c x
 
 -- the references of a SetEach and n keys differ in number
 abbrev pub miscounts : Operation → ℕ → ℕ → ℕ → Bool

@@ -54,7 +54,8 @@ few c =
 
 -- the height that is found is that of the left edge
 edge : (c : tie.After-left-edge) →
-    let l = c .before .before .before .before .before .before .before .before .before .before .args .pool .now in c .left-edge .result ≡ heightAt (nodesIn l) 8 (settingsIn l .root)
+    let set = c .before .before .before .before .before in
+    let l = set .before .before .before .before .before .args .pool .now in c .left-edge .result ≡ heightAt (nodesIn l) 8 (settingsIn l .root)
 edge c =
     let set = c .before .before .before .before .before in
     let l = set .before .before .before .before .before .args .pool .now in

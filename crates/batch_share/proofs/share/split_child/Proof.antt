@@ -34,7 +34,8 @@ weigh-requires c κs =
 
 add-insert-row : tie.Need-add-insert-row
 add-insert-row c =
-    let child = c .before .before .before .before .before .before .before .before .before .before in
+    let cut = c .before .before .before .before .before in
+    let child = cut .before .before .before .before .before in
     omega (arith, focus-few (poise-focus (child .before .before .before .pre)))
 
 insert-row-requires : tie.Need-insert-row-requires
