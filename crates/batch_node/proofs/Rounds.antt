@@ -200,10 +200,20 @@ module _ {st : Settings} {W₀ W : List ℕ} {h : ℕ} {node : Subtree} {b : Cal
         spared = m .spared;
       }
 
--- A TURN OF THE CODE
+-- A TURN OF THE CODE: in a round the next key is sent to child j, by its row, with the greatest key that the child may take
+pub record Sent (st : Settings) (W₀ W : List ℕ) (h : ℕ) (node : Subtree) (b : Call) (run₀ : Run) (i : ℕ) (changed : Bool) (run : Run) (j : ℕ) (row : Row)
+    (slot reach : ℕ) : Type 0 where
+  pub round : Round st W₀ W h node b run₀ i changed run
+  pub sought : Chosen (rowsAt st W (node .slot)) i (getD (b .keys) (run .next) 0) j
+  pub is : row ≡ getD (rowsAt st W (node .slot)) j blank
+  pub child : slot ≡ childOf row
+  pub top : reach ≡ ceilingFor (row .key) (getD (b .keys) (run .next) 0) (node .ceiling)
 
-module _ {st : Settings} {W₀ W : List ℕ} {h : ℕ} {node : Subtree} {b : Call} {run₀ : Run} {i : ℕ} {changed : Bool} {run : Run}
-    (r : Round st W₀ W h node b run₀ i changed run) where
+module _ {st : Settings} {W₀ W : List ℕ} {h : ℕ} {node : Subtree} {b : Call} {run₀ : Run} {i : ℕ} {changed : Bool} {run : Run} {j : ℕ} {row : Row}
+    {slot reach : ℕ} (sent : Sent st W₀ W h node b run₀ i changed run j row slot reach) where
+  abbrev r : Round st W₀ W h node b run₀ i changed run
+  r = sent .round
+
   abbrev us : List Task
   us = tasksOf b
 
@@ -223,204 +233,201 @@ module _ {st : Settings} {W₀ W : List ℕ} {h : ℕ} {node : Subtree} {b : Cal
   same = seek-turned (greatestKey (suc h)) (r .task .key) (r .here .before) (r .kid) (r .kids)
 
   -- THE CHILD that the code finds is the model's
-  module _ {j : ℕ} (sought : Chosen (rowsAt st W (node .slot)) i (getD (b .keys) (run .next) 0) j) where
-    found-at : j ≡ length (z .before)
-    found-at =
-        let n : i ≡ 0 + length (map (rowFor (suc h)) (r .here .before)) = omega (arith, r .here .index, length-map (r .here .before) (rowFor (suc h))) in
-        let e : drop i (rowsAt st W (node .slot)) ≡ map (rowFor (suc h)) (r .kid ∷ r .kids) =
-        ap (drop i) (rows-are ∙ map-turned (rowFor (suc h)) (r .here .before) (r .kid ∷ r .kids))
-        ∙ ap (λ (x : ℕ). drop x (reverseAux (map (rowFor (suc h)) (r .here .before)) (map (rowFor (suc h)) (r .kid ∷ r .kids)))) n
-        ∙ drop-turned 0 (map (rowFor (suc h)) (r .here .before)) (map (rowFor (suc h)) (r .kid ∷ r .kids)) in
+  found-at : j ≡ length (z .before)
+  found-at =
+      let n : i ≡ 0 + length (map (rowFor (suc h)) (r .here .before)) = omega (arith, r .here .index, length-map (r .here .before) (rowFor (suc h))) in
+      let e : drop i (rowsAt st W (node .slot)) ≡ map (rowFor (suc h)) (r .kid ∷ r .kids) =
+      ap (drop i) (rows-are ∙ map-turned (rowFor (suc h)) (r .here .before) (r .kid ∷ r .kids))
+      ∙ ap (λ (x : ℕ). drop x (reverseAux (map (rowFor (suc h)) (r .here .before)) (map (rowFor (suc h)) (r .kid ∷ r .kids)))) n
+      ∙ drop-turned 0 (map (rowFor (suc h)) (r .here .before)) (map (rowFor (suc h)) (r .kid ∷ r .kids)) in
+      omega (
+        arith,
+        sent .sought .is,
+        ap (λ (x : List Row). childFor (getD (b .keys) (run .next) 0) x) e,
+        ap (λ (x : ℕ). childFor x (map (rowFor (suc h)) (r .kid ∷ r .kids))) (sym (r .key)),
+        r .here .index,
+        seek-child h (r .task .key) (r .here .before) (r .kid) (r .kids),
+      )
+
+  row-is : row ≡ rowFor (suc h) (z .child)
+  row-is =
+      let n : j ≡ 0 + length (map (rowFor (suc h)) (z .before)) = omega (arith, found-at, length-map (z .before) (rowFor (suc h))) in
+      sent .is ∙ ap (λ (l : List Row). getD l j blank) (rows-are ∙ ap (map (rowFor (suc h))) (sym same) ∙ map-turned (rowFor (suc h)) (z .before) (z .child ∷ z .after))
+      ∙ ap (λ (x : ℕ). getD (reverseAux (map (rowFor (suc h)) (z .before)) (map (rowFor (suc h)) (z .child ∷ z .after))) x blank) n
+      ∙ getD-turned 0 (map (rowFor (suc h)) (z .before)) (map (rowFor (suc h)) (z .child ∷ z .after)) blank
+
+  abbrev top : ℕ
+  top = ceilingFor (greatestKey (suc h) (z .child)) (r .task .key) (node .ceiling)
+
+  reach-is : reach ≡ top
+  reach-is =
+      sent .top ∙ ap (λ (x : Row). ceilingFor (x .key) (getD (b .keys) (run .next) 0) (node .ceiling)) row-is
+      ∙ ap (λ (x : ℕ). ceilingFor (greatestKey (suc h) (z .child)) x (node .ceiling)) (sym (r .key))
+
+  ask : Asked st h top (nodes st W) (z .child) (r .task ∷ r .tasks) (run .spare)
+  ask = asked lim (r .walking) (r .le) (r .here .spared)
+
+  child-light : Light h (z .child)
+  child-light = omega (arith, ask .small)
+
+  read-child : treeAt (nodes st W) h slot ≡ z .child
+  read-child =
+      ap (treeAt (nodes st W) h) (sent .child ∙ ap childOf row-is ∙ child-slot h (z .child) child-light)
+      ∙ held-tree (nodes st W) h (z .child) child-light (ask .holds)
+
+  -- WHAT THE CALL OF NODE CHANGE ASKS
+  pub child-call : (g : ℕ) → ToChange st W h (record { height = g; slot = slot; ceiling = reach }) b run
+  child-call g =
+      record {
+        held = r .here .held;
+        asked = subst (λ (x : Tree h). Asked st h reach (nodes st W) x (drop (run .next) us) (run .spare)) (sym read-child)
+            (subst (λ (x : ℕ). Asked st h x (nodes st W) (z .child) (drop (run .next) us) (run .spare)) (sym reach-is)
+            (subst (λ (x : List Task). Asked st h top (nodes st W) (z .child) x (run .spare)) (sym (r .left)) ask));
+        batch = r .here .batch;
+      }
+
+  -- AFTER THE CALL
+  module _ {W₁ : List ℕ} {g : ℕ} {y : Reply} (came : NodeChanged st W W₁ h (record { height = g; slot = slot; ceiling = reach }) b run y) where
+    abbrev o : Outcome (Tree h)
+    o = change st h top (z .child) (r .task ∷ r .tasks) (runOf (nodes st W) (run .counts))
+
+    abbrev ns₁ : List S.Node
+    ns₁ = nodes st W₁
+
+    abbrev Tells : ℕ → Tree h → List Task → Type 0
+    Tells n x ts =
+        Answers h (nodes st W) ns₁ x (change st h n x ts (runOf (nodes st W) (run .counts))) (drop (y .run .next) us) ((y .result)) (y .run .counts)
+
+    answers : Tells top (z .child) (r .task ∷ r .tasks)
+    answers =
+        subst (Tells top (z .child)) (r .left)
+        (subst (λ (n : ℕ). Tells n (z .child) (drop (run .next) us)) reach-is (subst (λ (x : Tree h). Tells reach x (drop (run .next) us)) read-child (came .answers)))
+
+    loosely : Loose h (node .slot) ns₁ (z .before) (z .child) (o .node) (z .after)
+    loosely = loose lim (r .walking) (r .le) answers
+
+    small : length (flat h (back (z .before) ++ (o .node .items ++ joined (z .after)))) < 1048576
+    small = loose-small lim (r .walking) (r .le)
+
+    few : Lights h (reverseAux (z .before) (o .node ∷ z .after))
+    few = omega (arith, small, ap length (flat-joined h (reverseAux (z .before) (o .node ∷ z .after)) ∙ ap (flat h) (back-joined (z .before) (o .node ∷ z .after))))
+
+    new-light : Light h (o .node)
+    new-light =
         omega (
           arith,
-          sought .is,
-          ap (λ (x : List Row). childFor (getD (b .keys) (run .next) 0) x) e,
-          ap (λ (x : ℕ). childFor x (map (rowFor (suc h)) (r .kid ∷ r .kids))) (sym (r .key)),
-          r .here .index,
-          seek-child h (r .task .key) (r .here .before) (r .kid) (r .kids),
+          small,
+          ap length (flat-three h (back (z .before)) (o .node .items) (joined (z .after))),
+          length-append (flat h (back (z .before))) (flat h (o .node .items) ++ flat h (joined (z .after))),
+          length-append (flat h (o .node .items)) (flat h (joined (z .after))),
         )
 
-    module _ {row : Row} (er : row ≡ getD (rowsAt st W (node .slot)) j blank) where
-      row-is : row ≡ rowFor (suc h) (z .child)
-      row-is =
-          let n : j ≡ 0 + length (map (rowFor (suc h)) (z .before)) = omega (arith, found-at, length-map (z .before) (rowFor (suc h))) in
-          er ∙ ap (λ (l : List Row). getD l j blank) (rows-are ∙ ap (map (rowFor (suc h))) (sym same) ∙ map-turned (rowFor (suc h)) (z .before) (z .child ∷ z .after))
-          ∙ ap (λ (x : ℕ). getD (reverseAux (map (rowFor (suc h)) (z .before)) (map (rowFor (suc h)) (z .child ∷ z .after))) x blank) n
-          ∙ getD-turned 0 (map (rowFor (suc h)) (z .before)) (map (rowFor (suc h)) (z .child ∷ z .after)) blank
+    new-holds : Holds ns₁ h (o .node)
+    new-holds = answers .holds
 
-      module _ {slot : ℕ} (es : slot ≡ childOf row) {reach : ℕ} (et : reach ≡ ceilingFor (row .key) (getD (b .keys) (run .next) 0) (node .ceiling)) where
-        abbrev top : ℕ
-        top = ceilingFor (greatestKey (suc h) (z .child)) (r .task .key) (node .ceiling)
+    -- the old row names the new child
+    new-read : treeAt ns₁ h (childOf (rowFor (suc h) (z .child))) ≡ o .node
+    new-read = ap (treeAt ns₁ h) (child-slot h (z .child) child-light ∙ sym (loosely .slot)) ∙ held-tree ns₁ h (o .node) new-light new-holds
 
-        reach-is : reach ≡ top
-        reach-is =
-            et ∙ ap (λ (x : Row). ceilingFor (x .key) (getD (b .keys) (run .next) 0) (node .ceiling)) row-is
-            ∙ ap (λ (x : ℕ). ceilingFor (greatestKey (suc h) (z .child)) x (node .ceiling)) (sym (r .key))
+    rows-now : rowsAt st W₁ (node .slot) ≡ map (rowFor (suc h)) (reverseAux (z .before) (z .child ∷ z .after))
+    rows-now = ap (λ (n : S.Node). n .rows) (loosely .parent)
 
-        ask : Asked st h top (nodes st W) (z .child) (r .task ∷ r .tasks) (run .spare)
-        ask = asked lim (r .walking) (r .le) (r .here .spared)
+    abbrev reading : Row → Tree h
+    reading x = treeAt ns₁ h (childOf x)
 
-        child-light : Light h (z .child)
-        child-light = omega (arith, ask .small)
+    kids-now : kidsAt ns₁ h (node .slot) ≡ reverseAux (z .before) (o .node ∷ z .after)
+    kids-now =
+        let swap : map reading (map (rowFor (suc h)) (reverseAux (z .before) (z .child ∷ z .after))) ≡ map reading (map (rowFor (suc h)) (reverseAux (z .before) (o .node ∷ z .after))) =
+        ap (map reading) (map-turned (rowFor (suc h)) (z .before) (z .child ∷ z .after))
+        ∙ map-turned reading (map (rowFor (suc h)) (z .before)) (map (rowFor (suc h)) (z .child ∷ z .after))
+        ∙ ap (λ (x : Tree h). reverseAux (map reading (map (rowFor (suc h)) (z .before))) (x ∷ map reading (map (rowFor (suc h)) (z .after))))
+        (new-read ∙ sym (ap (treeAt ns₁ h) (child-slot h (o .node) new-light) ∙ held-tree ns₁ h (o .node) new-light new-holds))
+        ∙ sym (map-turned reading (map (rowFor (suc h)) (z .before)) (map (rowFor (suc h)) (o .node ∷ z .after)))
+        ∙ sym (ap (map reading) (map-turned (rowFor (suc h)) (z .before) (o .node ∷ z .after))) in
+        ap (map reading) rows-now ∙ swap ∙ kids-read ns₁ h (reverseAux (z .before) (o .node ∷ z .after)) few (loosely .kids)
 
-        read-child : treeAt (nodes st W) h slot ≡ z .child
-        read-child =
-            ap (treeAt (nodes st W) h) (es ∙ ap childOf row-is ∙ child-slot h (z .child) child-light)
-            ∙ held-tree (nodes st W) h (z .child) child-light (ask .holds)
+    long-now : length (rowsAt st W₁ (node .slot)) ≡ length (z .before) + suc (length (z .after))
+    long-now =
+        ap length rows-now ∙ length-map (reverseAux (z .before) (z .child ∷ z .after)) (rowFor (suc h)) ∙ length-reverseAux (z .before) (z .child ∷ z .after)
 
-        -- WHAT THE CALL OF NODE CHANGE ASKS
-        pub child-call : (g : ℕ) → ToChange st W h (record { height = g; slot = slot; ceiling = reach }) b run
-        child-call g =
-            record {
-              held = r .here .held;
-              asked = subst (λ (x : Tree h). Asked st h reach (nodes st W) x (drop (run .next) us) (run .spare)) (sym read-child)
-                  (subst (λ (x : ℕ). Asked st h x (nodes st W) (z .child) (drop (run .next) us) (run .spare)) (sym reach-is)
-                  (subst (λ (x : List Task). Asked st h top (nodes st W) (z .child) x (run .spare)) (sym (r .left)) ask));
-              batch = r .here .batch;
-            }
+    -- WHAT SETTLING ASKS
+    pub pending : ToSettle st W₁ h (node .slot) j (y .run .spare) (y .result)
+    pending =
+        cross (Pend st W₁ h (node .slot) j (y .run .spare) (y .result)) (sym (before-is ns₁ h (node .slot) (z .before) (o .node) (z .after) j kids-now found-at))
+        (sym (child-is ns₁ h (node .slot) (z .before) (o .node) (z .after) j kids-now found-at)) (sym (after-is ns₁ h (node .slot) (z .before) (o .node) (z .after) j kids-now found-at))
+        (record {
+          held = came .held;
+          within = omega (arith, found-at, long-now);
+          few = omega (
+            arith,
+            long-now,
+            r .walking .grown,
+            ap length same,
+            length-reverseAux (z .before) (z .child ∷ z .after),
+            length-reverseAux (r .here .before) (r .kid ∷ r .kids),
+          );
+          old = z .child;
+          loose = loosely;
+          kept = λ e. kept lim (r .walking) (r .le) (ap isChange (sym (answers .result) ∙ e));
+          says = subst (λ (x : ChangeResult). Says st x (o .node)) (sym (answers .result)) (says lim (r .walking) (r .le));
+          stocked-before = stocked-sides lim (r .walking) (r .le) .0;
+          stocked-after = stocked-sides lim (r .walking) (r .le) .1;
+          room = omega (arith, ap takes (answers .result), ap length (answers .unused), room lim (r .walking) (r .le) (r .walking .enough));
+          small = small;
+          fit = loose-fit lim (r .walking) (r .le);
+          empty = answers .empty;
+          spared = came .spared;
+        })
 
-        -- AFTER THE CALL
-        module _ {W₁ : List ℕ} {g : ℕ} {y : Reply} (came : NodeChanged st W W₁ h (record { height = g; slot = slot; ceiling = reach }) b run y) where
-          abbrev o : Outcome (Tree h)
-          o = change st h top (z .child) (r .task ∷ r .tasks) (runOf (nodes st W) (run .counts))
+    -- AND WHAT IT LEAVES
+    module _ {W₂ : List ℕ} {to : Standing} (done : ChildSettled st W₁ W₂ h (node .slot) j (y .result) to) where
+      ended : Ended st W₁ W₂ h (node .slot) (y .result) to (reverseAux (z .before) (o .node ∷ z .after)) (z .before) (o .node) (z .after)
+      ended =
+          cross (Ended st W₁ W₂ h (node .slot) (y .result) to (reverseAux (z .before) (o .node ∷ z .after))) (before-is ns₁ h (node .slot) (z .before) (o .node) (z .after) j kids-now found-at)
+          (child-is ns₁ h (node .slot) (z .before) (o .node) (z .after) j kids-now found-at) (after-is ns₁ h (node .slot) (z .before) (o .node) (z .after) j kids-now found-at)
+          (subst (λ (ys : List (Tree h)). Ended st W₁ W₂ h (node .slot) (y .result) to ys (beforeAt ns₁ h (node .slot) j) (childAt ns₁ h (node .slot) j) (afterAt ns₁ h (node .slot) j)) kids-now done)
 
-          abbrev ns₁ : List S.Node
-          ns₁ = nodes st W₁
+      abbrev p : Place (Tree h)
+      p = settle st (o .result) (z .before) (o .node) (z .after) (o .run .unused)
 
-          abbrev Tells : ℕ → Tree h → List Task → Type 0
-          Tells n x ts =
-              Answers h (nodes st W) ns₁ x (change st h n x ts (runOf (nodes st W) (run .counts))) (drop (y .run .next) us) ((y .result)) (y .run .counts)
+      place-is : settle st ((y .result)) (z .before) (o .node) (z .after) (unusedOf ns₁) ≡ p
+      place-is =
+          ap (λ (x : ChangeResult). settle st x (z .before) (o .node) (z .after) (unusedOf ns₁)) (answers .result)
+          ∙ ap (λ (f : List ℕ). settle st (o .result) (z .before) (o .node) (z .after) f) (answers .unused)
 
-          answers : Tells top (z .child) (r .task ∷ r .tasks)
-          answers =
-              subst (Tells top (z .child)) (r .left)
-              (subst (λ (n : ℕ). Tells n (z .child) (drop (run .next) us)) reach-is (subst (λ (x : Tree h). Tells reach x (drop (run .next) us)) read-child (came .answers)))
+      abbrev There : ℕ → Bool → List Task → Counts → Type 0
+      There n ch ts d = Walking st h (node .slot) (node .ceiling) (nodes st W₀) root (drop (run₀ .next) us) (run₀ .counts) (nodes st W₂) (p .before) (p .rest) n ch ts d
 
-          loosely : Loose h (node .slot) ns₁ (z .before) (z .child) (o .node) (z .after)
-          loosely = loose lim (r .walking) (r .le) answers
+      turned : ((n : ℕ) × There n (changed || isChange (o .result)) (o .tasks) (o .run .counts))
+      turned =
+          turn lim (r .walking) (r .le) answers
+          (subst (λ (x : Place (Tree h)). Settled h (node .slot) ns₁ (nodes st W₂) (reverseAux (z .before) (o .node ∷ z .after)) x) place-is (ended .settled))
 
-          small : length (flat h (back (z .before) ++ (o .node .items ++ joined (z .after)))) < 1048576
-          small = loose-small lim (r .walking) (r .le)
+      pub round-less : run .next < y .run .next
+      round-less =
+          omega (
+            arith,
+            fewer lim (r .walking) (r .le),
+            ap length (answers .left),
+            ap length (r .left),
+            length-drop (y .run .next) us,
+            length-drop (run .next) us,
+          )
 
-          few : Lights h (reverseAux (z .before) (o .node ∷ z .after))
-          few = omega (arith, small, ap length (flat-joined h (reverseAux (z .before) (o .node ∷ z .after)) ∙ ap (flat h) (back-joined (z .before) (o .node ∷ z .after))))
-
-          new-light : Light h (o .node)
-          new-light =
-              omega (
-                arith,
-                small,
-                ap length (flat-three h (back (z .before)) (o .node .items) (joined (z .after))),
-                length-append (flat h (back (z .before))) (flat h (o .node .items) ++ flat h (joined (z .after))),
-                length-append (flat h (o .node .items)) (flat h (joined (z .after))),
-              )
-
-          new-holds : Holds ns₁ h (o .node)
-          new-holds = answers .holds
-
-          -- the old row names the new child
-          new-read : treeAt ns₁ h (childOf (rowFor (suc h) (z .child))) ≡ o .node
-          new-read = ap (treeAt ns₁ h) (child-slot h (z .child) child-light ∙ sym (loosely .slot)) ∙ held-tree ns₁ h (o .node) new-light new-holds
-
-          rows-now : rowsAt st W₁ (node .slot) ≡ map (rowFor (suc h)) (reverseAux (z .before) (z .child ∷ z .after))
-          rows-now = ap (λ (n : S.Node). n .rows) (loosely .parent)
-
-          abbrev reading : Row → Tree h
-          reading x = treeAt ns₁ h (childOf x)
-
-          kids-now : kidsAt ns₁ h (node .slot) ≡ reverseAux (z .before) (o .node ∷ z .after)
-          kids-now =
-              let swap : map reading (map (rowFor (suc h)) (reverseAux (z .before) (z .child ∷ z .after))) ≡ map reading (map (rowFor (suc h)) (reverseAux (z .before) (o .node ∷ z .after))) =
-              ap (map reading) (map-turned (rowFor (suc h)) (z .before) (z .child ∷ z .after))
-              ∙ map-turned reading (map (rowFor (suc h)) (z .before)) (map (rowFor (suc h)) (z .child ∷ z .after))
-              ∙ ap (λ (x : Tree h). reverseAux (map reading (map (rowFor (suc h)) (z .before))) (x ∷ map reading (map (rowFor (suc h)) (z .after))))
-              (new-read ∙ sym (ap (treeAt ns₁ h) (child-slot h (o .node) new-light) ∙ held-tree ns₁ h (o .node) new-light new-holds))
-              ∙ sym (map-turned reading (map (rowFor (suc h)) (z .before)) (map (rowFor (suc h)) (o .node ∷ z .after)))
-              ∙ sym (ap (map reading) (map-turned (rowFor (suc h)) (z .before) (o .node ∷ z .after))) in
-              ap (map reading) rows-now ∙ swap ∙ kids-read ns₁ h (reverseAux (z .before) (o .node ∷ z .after)) few (loosely .kids)
-
-          long-now : length (rowsAt st W₁ (node .slot)) ≡ length (z .before) + suc (length (z .after))
-          long-now =
-              ap length rows-now ∙ length-map (reverseAux (z .before) (z .child ∷ z .after)) (rowFor (suc h)) ∙ length-reverseAux (z .before) (z .child ∷ z .after)
-
-          -- WHAT SETTLING ASKS
-          pub pending : ToSettle st W₁ h (node .slot) j (y .run .spare) (y .result)
-          pending =
-              cross (Pend st W₁ h (node .slot) j (y .run .spare) (y .result)) (sym (before-is ns₁ h (node .slot) (z .before) (o .node) (z .after) j kids-now found-at))
-              (sym (child-is ns₁ h (node .slot) (z .before) (o .node) (z .after) j kids-now found-at)) (sym (after-is ns₁ h (node .slot) (z .before) (o .node) (z .after) j kids-now found-at))
-              (record {
-                held = came .held;
-                within = omega (arith, found-at, long-now);
-                few = omega (
-                  arith,
-                  long-now,
-                  r .walking .grown,
-                  ap length same,
-                  length-reverseAux (z .before) (z .child ∷ z .after),
-                  length-reverseAux (r .here .before) (r .kid ∷ r .kids),
-                );
-                old = z .child;
-                loose = loosely;
-                kept = λ e. kept lim (r .walking) (r .le) (ap isChange (sym (answers .result) ∙ e));
-                says = subst (λ (x : ChangeResult). Says st x (o .node)) (sym (answers .result)) (says lim (r .walking) (r .le));
-                stocked-before = stocked-sides lim (r .walking) (r .le) .0;
-                stocked-after = stocked-sides lim (r .walking) (r .le) .1;
-                room = omega (arith, ap takes (answers .result), ap length (answers .unused), room lim (r .walking) (r .le) (r .walking .enough));
-                small = small;
-                fit = loose-fit lim (r .walking) (r .le);
-                empty = answers .empty;
-                spared = came .spared;
-              })
-
-          -- AND WHAT IT LEAVES
-          module _ {W₂ : List ℕ} {to : Standing} (done : ChildSettled st W₁ W₂ h (node .slot) j (y .result) to) where
-            ended : Ended st W₁ W₂ h (node .slot) (y .result) to (reverseAux (z .before) (o .node ∷ z .after)) (z .before) (o .node) (z .after)
-            ended =
-                cross (Ended st W₁ W₂ h (node .slot) (y .result) to (reverseAux (z .before) (o .node ∷ z .after))) (before-is ns₁ h (node .slot) (z .before) (o .node) (z .after) j kids-now found-at)
-                (child-is ns₁ h (node .slot) (z .before) (o .node) (z .after) j kids-now found-at) (after-is ns₁ h (node .slot) (z .before) (o .node) (z .after) j kids-now found-at)
-                (subst (λ (ys : List (Tree h)). Ended st W₁ W₂ h (node .slot) (y .result) to ys (beforeAt ns₁ h (node .slot) j) (childAt ns₁ h (node .slot) j) (afterAt ns₁ h (node .slot) j)) kids-now done)
-
-            abbrev p : Place (Tree h)
-            p = settle st (o .result) (z .before) (o .node) (z .after) (o .run .unused)
-
-            place-is : settle st ((y .result)) (z .before) (o .node) (z .after) (unusedOf ns₁) ≡ p
-            place-is =
-                ap (λ (x : ChangeResult). settle st x (z .before) (o .node) (z .after) (unusedOf ns₁)) (answers .result)
-                ∙ ap (λ (f : List ℕ). settle st (o .result) (z .before) (o .node) (z .after) f) (answers .unused)
-
-            abbrev There : ℕ → Bool → List Task → Counts → Type 0
-            There n ch ts d = Walking st h (node .slot) (node .ceiling) (nodes st W₀) root (drop (run₀ .next) us) (run₀ .counts) (nodes st W₂) (p .before) (p .rest) n ch ts d
-
-            turned : ((n : ℕ) × There n (changed || isChange (o .result)) (o .tasks) (o .run .counts))
-            turned =
-                turn lim (r .walking) (r .le) answers
-                (subst (λ (x : Place (Tree h)). Settled h (node .slot) ns₁ (nodes st W₂) (reverseAux (z .before) (o .node ∷ z .after)) x) place-is (ended .settled))
-
-            pub round-less : run .next < y .run .next
-            round-less =
-                omega (
-                  arith,
-                  fewer lim (r .walking) (r .le),
-                  ap length (answers .left),
-                  ap length (r .left),
-                  length-drop (y .run .next) us,
-                  length-drop (run .next) us,
-                )
-
-            pub round-again : {changed′ : Bool} → changed′ ≡ (changed || isChange ((y .result)))
-                → Roaming st W₀ W₂ h node b run₀ (to .at) changed′ (record { next = y .run .next; counts = y .run .counts; spare = to .spare })
-            round-again ec =
-                record {
-                  held = ended .held;
-                  header = ended .header ∙ came .header ∙ r .here .header;
-                  batch = record { lent = came .batch .lent; short = came .batch .short; within = came .batch .within; few = came .batch .few };
-                  spared = ended .spared;
-                  before = p .before;
-                  rest = p .rest;
-                  turns = turned .0;
-                  index = ended .at ∙ ap (λ (x : Place (Tree h)). length (x .before)) place-is;
-                  walking =
-                      subst (λ (b : Bool). There (turned .0) b (drop (y .run .next) us) (y .run .counts)) (sym (ec ∙ ap (λ (x : ChangeResult). changed || isChange x) (answers .result)))
-                      (subst (λ (ts : List Task). There (turned .0) (changed || isChange (o .result)) ts (y .run .counts)) (sym (answers .left))
-                      (subst (There (turned .0) (changed || isChange (o .result)) (o .tasks)) (sym (answers .counts)) (turned .1)));
-                }
+      pub round-again : {changed′ : Bool} → changed′ ≡ (changed || isChange ((y .result)))
+          → Roaming st W₀ W₂ h node b run₀ (to .at) changed′ (record { next = y .run .next; counts = y .run .counts; spare = to .spare })
+      round-again ec =
+          record {
+            held = ended .held;
+            header = ended .header ∙ came .header ∙ r .here .header;
+            batch = record { lent = came .batch .lent; short = came .batch .short; within = came .batch .within; few = came .batch .few };
+            spared = ended .spared;
+            before = p .before;
+            rest = p .rest;
+            turns = turned .0;
+            index = ended .at ∙ ap (λ (x : Place (Tree h)). length (x .before)) place-is;
+            walking =
+                subst (λ (b : Bool). There (turned .0) b (drop (y .run .next) us) (y .run .counts)) (sym (ec ∙ ap (λ (x : ChangeResult). changed || isChange x) (answers .result)))
+                (subst (λ (ts : List Task). There (turned .0) (changed || isChange (o .result)) ts (y .run .counts)) (sym (answers .left))
+                (subst (There (turned .0) (changed || isChange (o .result)) (o .tasks)) (sym (answers .counts)) (turned .1)));
+          }

@@ -7,7 +7,7 @@ use lib.ListN.{length}
 use Rattle.words.specs.Words.{words}
 use Rattle.model.specs.Refuse.{call}
 use Rattle.batch_node.specs.Contracts.{ToChange, NodeChanged}
-use Rattle.batch_node.proofs.Rounds.{Roaming, round-start, round-at, round, next-in, child-in, child-call, pending, round-again, round-less, round-end}
+use Rattle.batch_node.proofs.Rounds.{Roaming, Sent, round-start, round-at, round, next-in, child-in, child-call, pending, round-again, round-less, round-end}
 use borrow.Author.Needs.{needs}
 use borrow.Fn.Kinds.{In}
 use borrow.Fn.PlainCycle.{Measures, is, falls, and}
@@ -144,33 +144,41 @@ interior-change-child-of-requires t c κs = tt
 interior-change-ceiling-for-requires : (t : ℕ) → interior-change-lts.Need-ceiling-for-requires (ic t) (interior-change-at t) interior-change.Post interior-change-Inv-loop interior-change-μ-loop
 interior-change-ceiling-for-requires t c κs = tt
 
-interior-change-node-change-requires : (t : ℕ) → interior-change-lts.Need-node-change-requires (ic t) (interior-change-at t) interior-change.Post interior-change-Inv-loop interior-change-μ-loop
-interior-change-node-change-requires t c κs =
-    let reach = c .before in
-    let child = reach .before in
-    let row = child .before in
+-- the child that the next key is sent to
+sent : (t : ℕ) (c : interior-change-lts.After-ceiling-for (ic t) (interior-change-at t) interior-change.Post interior-change-Inv-loop interior-change-μ-loop) →
+    let row = c .before .before in
+    let sought = row .before .before in
+    let at = sought .before .before .before .before .before .before in
+    let a = at .before .before .before .before .before .before .args in
+    Sent (a .st) (words (a .pool .now)) (words (at .loop .pool)) (a .node .height - 1) (a .node) (call (a .op) (a .places .now) (a .sizes .now) (a .keys .now))
+    (a .run) (at .loop .i) (at .loop .changed) (at .loop .now) (sought .child-for .result) (row .row-at .result) (c .before .child-of .result)
+    (c .ceiling-for .result)
+sent t c =
+    let row = c .before .before in
     let sought = row .before .before in
     let taken = sought .before .before .before in
     let asked = taken .before in
-    let at = asked .before .before in
-    let start = at .before .before .before .before .before .before in
-    let r = round (at .loop .inv .0) (sym (asked .roams-on .ensures) ∙ taken .if1 .taken) in (
+    record {
+      round = round (asked .before .before .loop .inv .0) (sym (asked .roams-on .ensures) ∙ taken .if1 .taken);
+      sought = sought .child-for .ensures;
+      is = row .row-at .ensures;
+      child = c .before .child-of .ensures;
+      top = c .ceiling-for .ensures;
+    }
+
+interior-change-node-change-requires : (t : ℕ) → interior-change-lts.Need-node-change-requires (ic t) (interior-change-at t) interior-change.Post interior-change-Inv-loop interior-change-μ-loop
+interior-change-node-change-requires t c κs =
+    let sought = c .before .before .before .before .before in
+    let at = sought .before .before .before .before .before .before in
+    let start = at .before .before .before .before .before .before in (
       omega (arith, start .pre .0),
-      child-call r (sought .child-for .ensures) (row .row-at .ensures) (child .child-of .ensures) (reach .ceiling-for .ensures) _,
+      child-call (sent t (c .before)) _,
     )
 
 interior-change-settle-child-requires : (t : ℕ) → interior-change-lts.Need-settle-child-requires (ic t) (interior-change-at t) interior-change.Post interior-change-Inv-loop interior-change-μ-loop
 interior-change-settle-child-requires t c κs =
     let changed = c .before .before .before .before .before .before in
-    let reach = changed .before .before in
-    let child = reach .before in
-    let row = child .before in
-    let sought = row .before .before in
-    let taken = sought .before .before .before in
-    let asked = taken .before in
-    let at = asked .before .before in
-    let r = round (at .loop .inv .0) (sym (asked .roams-on .ensures) ∙ taken .if1 .taken) in
-    pending r (sought .child-for .ensures) (row .row-at .ensures) (child .child-of .ensures) (reach .ceiling-for .ensures) (changed .node-change .ensures)
+    pending (sent t (changed .before .before)) (changed .node-change .ensures)
 
 interior-change-changed-by-requires : (t : ℕ) → interior-change-lts.Need-changed-by-requires (ic t) (interior-change-at t) interior-change.Post interior-change-Inv-loop interior-change-μ-loop
 interior-change-changed-by-requires t c κs = tt
@@ -179,35 +187,16 @@ interior-change-loop-less : (t : ℕ) → interior-change-lts.Need-loop-less (ic
 interior-change-loop-less t c =
     let settled = c .before .before .before .before in
     let changed = settled .before .before .before .before .before .before .before in
-    let reach = changed .before .before in
-    let child = reach .before in
-    let row = child .before in
-    let sought = row .before .before in
-    let taken = sought .before .before .before in
-    let asked = taken .before in
-    let at = asked .before .before in
-    let on = sym (asked .roams-on .ensures) ∙ taken .if1 .taken in
-    omega (
-      arith,
-      next-in (at .loop .inv .0) on,
-      round-less (round (at .loop .inv .0) on) (sought .child-for .ensures) (row .row-at .ensures) (child .child-of .ensures) (reach .ceiling-for .ensures)
-          (changed .node-change .ensures) (settled .settle-child .ensures),
-    )
+    let came = changed .node-change .ensures in
+    omega (arith, came .batch .within, round-less (sent t (changed .before .before)) came (settled .settle-child .ensures))
 
 interior-change-loop-again : (t : ℕ) → interior-change-lts.Need-loop-again (ic t) (interior-change-at t) interior-change.Post interior-change-Inv-loop interior-change-μ-loop
 interior-change-loop-again t c =
     let settled = c .before .before .before .before in
     let changed = settled .before .before .before .before .before .before .before in
-    let reach = changed .before .before in
-    let child = reach .before in
-    let row = child .before in
-    let sought = row .before .before in
-    let taken = sought .before .before .before in
-    let asked = taken .before in
-    let at = asked .before .before in
-    let r = round (at .loop .inv .0) (sym (asked .roams-on .ensures) ∙ taken .if1 .taken) in (
-      round-again r (sought .child-for .ensures) (row .row-at .ensures) (child .child-of .ensures) (reach .ceiling-for .ensures) (changed .node-change .ensures)
-          (settled .settle-child .ensures) (c .changed-by .ensures),
+    let sought = changed .before .before .before .before .before .before in
+    let at = sought .before .before .before .before .before .before in (
+      round-again (sent t (changed .before .before)) (changed .node-change .ensures) (settled .settle-child .ensures) (c .changed-by .ensures),
       settled .settle-child .kept .0 ∙ changed .node-change .kept .0 ∙ at .loop .inv .1,
     )
 
