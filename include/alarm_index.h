@@ -11,7 +11,8 @@
  * neighbours allowed.
  *
  * THREADS: there are no globals, and a call touches what it is lent and nothing else. So calls on different pools may run at once, and so
- * may calls on one pool that take it as const, each with buffers of its own. alarm_open and the batches need their pool alone.
+ * may calls on one pool that take it as const, each with buffers of its own. alarm_open and the batches need their pool alone, and
+ * alarm_pack its target.
  *
  * STACK: at most 16 KB a call; the gate holds each call to it. docs/POOL.md has what each was seen to take.
  */
@@ -24,7 +25,7 @@
 
 /* The version of these declarations: the first number rises where a call or a name changes its meaning, the second where one is added. */
 #define ALARM_INDEX_MAJOR 1
-#define ALARM_INDEX_MINOR 0
+#define ALARM_INDEX_MINOR 1
 
 /* The layout of a pool (docs/POOL.md). A pool of another layout is refused as ALARM_NOT_SOUND. */
 #define ALARM_LAYOUT 1
@@ -33,22 +34,25 @@
 typedef char alarm_size_t_has_8_bytes[sizeof(size_t) == 8 ? 1 : -1];
 typedef char alarm_bool_has_1_byte[sizeof(bool) == 1 ? 1 : -1];
 
-/* What a function returns. Of the refusals that apply, the first in this list is given. */
+/* What a function returns. Of the refusals that apply, the first in this list is given, in every call. */
 enum alarm_refusal {
     ALARM_DONE = 0,
     ALARM_WRONG_SETTING = 1,       /* opening: a setting or the pool's length is wrong */
     ALARM_NOT_SOUND = 2,           /* any other call on a pool: it is not sound */
+    ALARM_SETTINGS_DIFFER = 17,    /* alarm_pack: the order or the minimum of the two pools differ */
+    ALARM_TARGET_NOT_NEW = 18,     /* alarm_pack: the target is not a new pool */
     ALARM_BATCH_TOO_LONG = 3,      /* a batch longer than order */
     ALARM_REFERENCES_DIFFER = 4,   /* places, sizes and keys differ in number */
     ALARM_KEYS_DESCEND = 5,        /* keys descend somewhere */
     ALARM_TOO_DEEP = 6,            /* any batch but alarm_remove: the depth is already 8 */
-    ALARM_TOO_FEW_NODES = 7,       /* any batch but alarm_remove: n keys at depth d, fewer than n * max(d, 2) + 4 unused nodes */
     ALARM_LINE_EMPTY = 8,          /* a line to read is empty */
     ALARM_LINE_NOT_HEX = 9,        /* a line of odd length, or a byte that is not 0-9, a-f */
+    ALARM_UNKNOWN_HEADER = 13,     /* header not 0 or 1 */
     ALARM_LINE_NOT_WHOLE = 10,     /* header known, rest no whole number of entries */
     ALARM_TOO_MANY_ENTRIES = 11,   /* more than 32 entries */
     ALARM_KEYS_NOT_ASCENDING = 12, /* keys not strictly ascending */
-    ALARM_UNKNOWN_HEADER = 13,     /* header not 0 or 1 */
+    ALARM_TOO_FEW_NODES = 7,       /* any batch but alarm_remove: n keys at depth d, fewer than n * max(d, 2) + 4 unused nodes;
+                                    * alarm_pack: the target has fewer nodes than the packed tree needs */
     ALARM_NO_NODE = 14,            /* no i-th node */
     ALARM_LINE_MALFORMED = 15,     /* of the desk program alone: no function returns it */
     ALARM_LINE_TOO_SHORT = 16      /* the line buffer is too short */
@@ -91,6 +95,12 @@ uint32_t alarm_open(uint8_t *pool, size_t pool_n, uint64_t nodes, uint64_t order
 
 /* totals: live entries, dead entries, the sum of the sizes of all. Refused as 2. */
 uint32_t alarm_totals(const uint8_t *pool, size_t pool_n, uint64_t totals[3]);
+
+/* Copies the tree of the source into the target, a new pool of the same order and minimum: each level has as few nodes as its entries need,
+ * every one of them full but the last, and slots go out in preorder. The entries are the same in the same order, dead ones too. The source
+ * is only read, and the two must not overlap. The target may have another number of nodes; as many as the source has are always enough.
+ * A pool that was emptied again is new. Refused as 2 for either pool, 17, 18, 7. */
+uint32_t alarm_pack(const uint8_t *source, size_t source_n, uint8_t *target, size_t target_n);
 
 /* BATCHES of at most `order` keys, taken first to last. counts: keys that added, replaced, removed, did nothing. */
 

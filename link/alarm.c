@@ -1,4 +1,5 @@
-/* Opens a pool, sets, compares, removes, gets, scans and frames, and prints what each call answered. What it must print: alarm.stdout.
+/* Opens a pool, sets, compares, removes, gets, scans, frames and packs, and prints what each call answered. What it must print:
+ * alarm.stdout.
  *
  *     cc -Iinclude link/alarm.c "$(link/archive)" -o target/alarm && target/alarm | diff - link/alarm.stdout
  */
@@ -37,6 +38,50 @@ static bool lengths_agree(void) {
     return true;
 }
 
+static uint64_t nodes(const uint8_t *of, size_t of_n) {
+    uint8_t line[ALARM_LINE_LEN];
+    uint64_t i = 0, len;
+    while (alarm_frame(of, of_n, i, line, sizeof line, &len) == ALARM_DONE)
+        i++;
+    return i;
+}
+
+/* 48 alarms, of which two of four are cleared: leaves that are half empty, packed into a second pool */
+static void packing(void) {
+    static uint8_t worn[ALARM_POOL_LEN(32, 4)], before[sizeof worn], fresh[ALARM_POOL_LEN(9, 4)], other[ALARM_POOL_LEN(16, 5)];
+    uint64_t counts[4], totals[3], told[3];
+    alarm_open(worn, sizeof worn, 32, 4, 2);
+    for (uint64_t k = 1; k <= 48; k++)
+        alarm_set(worn, sizeof worn, &k, 1, 256 + k, 16, counts);
+    for (uint64_t k = 1; k <= 48; k += 4) {
+        const uint64_t cleared[2] = {k + 1, k + 2};
+        alarm_remove(worn, sizeof worn, cleared, 2, counts);
+    }
+    memcpy(before, worn, sizeof worn);
+    numbers("worn", alarm_totals(worn, sizeof worn, totals), totals, 3);
+    printf("  in %" PRIu64 " nodes\n", nodes(worn, sizeof worn));
+
+    printf("pack %" PRIu32 ", no pool\n", alarm_pack(worn, sizeof worn, other, sizeof other));
+    alarm_open(other, sizeof other, 16, 5, 2);
+    printf("pack %" PRIu32 ", of another order\n", alarm_pack(worn, sizeof worn, other, sizeof other));
+    alarm_open(fresh, sizeof fresh, 9, 4, 1);
+    printf("pack %" PRIu32 ", of another minimum\n", alarm_pack(worn, sizeof worn, fresh, sizeof fresh));
+    printf("pack %" PRIu32 ", not new\n", alarm_pack(worn, sizeof worn, pool, n));
+    alarm_open(fresh, ALARM_POOL_LEN(8, 4), 8, 4, 2);
+    printf("pack %" PRIu32 ", too small by a node\n", alarm_pack(worn, sizeof worn, fresh, ALARM_POOL_LEN(8, 4)));
+    alarm_open(fresh, sizeof fresh, 9, 4, 2);
+    printf("pack %" PRIu32 "\n", alarm_pack(worn, sizeof worn, fresh, sizeof fresh));
+    printf("pack %" PRIu32 ", no longer new\n", alarm_pack(worn, sizeof worn, fresh, sizeof fresh));
+    numbers("packed", alarm_totals(fresh, sizeof fresh, totals), totals, 3);
+    printf("  in %" PRIu64 " nodes\n", nodes(fresh, sizeof fresh));
+    printf("worn %s\n", memcmp(before, worn, sizeof worn) ? "CHANGED" : "as it was");
+
+    uint8_t out[3 * ALARM_ENTRY_LEN];
+    const struct alarm_range newest = {ALARM_UNBOUNDED, 0, ALARM_UNBOUNDED, 0, true, 0};
+    numbers("scan_range", alarm_scan_range(fresh, sizeof fresh, &newest, out, sizeof out, told), told, 3);
+    entries(out, told[ALARM_WRITTEN]);
+}
+
 /* a slice of no elements may be NULL, in every call that takes one */
 static void without_elements(void) {
     uint64_t counts[4], told[3], head[2], wide[32] = {0}, keys[32] = {0}, len = 0, totals[3] = {7, 7, 7};
@@ -54,6 +99,7 @@ static void without_elements(void) {
     numbers("no write_interior", alarm_write_interior(0, keys, narrow, live, dead, wide, NULL, 0, &len), &len, 1);
     printf("no pool %" PRIu32 "\n", alarm_open(NULL, 0, 16, 4, 2));
     numbers("no pool", alarm_totals(NULL, 0, totals), totals, 3);
+    printf("no pack %" PRIu32 "\n", alarm_pack(NULL, 0, NULL, 0));
 }
 
 int main(void) {
@@ -120,6 +166,7 @@ int main(void) {
     numbers("compare", alarm_compare(pool, n, keys + 4, 1, true, 261, 16, false, 0, 0, counts), counts, 4);
     numbers("remove", alarm_remove(pool, n, keys + 4, 1, counts), counts, 4);
     numbers("totals", alarm_totals(pool, n, totals), totals, 3);
+    packing();
     without_elements();
     return 0;
 }

@@ -1,7 +1,7 @@
 /* How many bytes of stack each call takes, at orders 4, 16 and 32, on the deepest trees that there are: depth 7 for a batch that sets, for
- * it is refused at 8, and depth 8 for any other call. Each call runs on a thread of its own whose stack is painted first, and what is no
- * longer painted after the call was used. Counted from the frame of the function that makes the call. Ends with 1 where a call takes more
- * than MOST.
+ * it is refused at 8, and depth 8 for any other call; what is packed has depth 8, or as many levels as can be when it is packed. Each call
+ * runs on a thread of its own whose stack is painted first, and what is no longer painted after the call was used. Counted from the frame
+ * of the function that makes the call. Ends with 1 where a call takes more than MOST.
  *
  *     cc -O1 -pthread -Wl,-z,now -Iinclude link/stack.c "$(link/archive)" -o target/stack && target/stack
  *
@@ -13,19 +13,29 @@
 #include <stdlib.h>
 #include <string.h>
 
-enum { MOST = 1 << 14, STACK = 1 << 18, PAINT = 0xa5, NODES = 2048, TURNS = 200, GAP = 64 };
+enum { MOST = 1 << 14, STACK = 1 << 18, PAINT = 0xa5, NODES = 2048, TURNS = 200, GAP = 64, ROOM = 7 << 20 };
 
-static uint8_t pool[ALARM_POOL_LEN(NODES, ALARM_ORDER_MOST)], out[NODES * ALARM_ORDER_MOST * ALARM_ENTRY_LEN], line[ALARM_LINE_LEN];
+static uint8_t pool[ROOM], target[ROOM], out[NODES * ALARM_ORDER_MOST * ALARM_ENTRY_LEN], line[ALARM_LINE_LEN];
 static uint64_t order, minimum, pool_n, top, batch_n, len, counts[4], told[3], head[2];
 static uint64_t keys[32], places[32], batch[32];
 static uint32_t sizes[32], live[32], dead[32];
 
 /* TREES. A sound pool written by hand (docs/POOL.md), since batches reach such depths at order 32 only after a long way. The nodes on the
  * way to the last leaf, and the sibling before each of them, have `width` rows; any other node has one. So there are few nodes, and yet a
- * change of the last leaf goes all the way up: where these nodes are full, a key above all others splits each of them and the root. */
+ * change of the last leaf goes all the way up: where these nodes are full, a key above all others splits each of them and the root.
+ *
+ * Such a tree has few entries, and packed it is shallow. So there is another: a root over two children, all below them full. */
 
-enum wide { THIN, BESIDE, ON_THE_WAY };
+enum wide { THIN, BESIDE, ON_THE_WAY, OVER_TWO, FULL };
 static uint64_t slots, width;
+
+static uint64_t rows_of(enum wide wide) { return wide == THIN ? 1 : wide == OVER_TWO ? 2 : wide == FULL ? order : width; }
+
+static enum wide child_of(enum wide wide, uint64_t behind) {
+    if (wide == OVER_TWO || wide == FULL)
+        return FULL;
+    return wide != ON_THE_WAY || behind > 1 ? THIN : behind == 1 ? BESIDE : ON_THE_WAY;
+}
 
 static void put(uint64_t slot, uint64_t word, uint64_t n) {
     uint8_t *at = pool + 8 * (4 + slot * (2 + 6 * order) + word);
@@ -41,7 +51,7 @@ static void put_row(uint64_t slot, uint64_t i, uint64_t key, uint64_t body, uint
 
 /* Writes a node of a height into a slot, with all below it, and answers how many entries there are; the greatest key is `top`. */
 static uint64_t plant(uint64_t slot, int height, enum wide wide) {
-    uint64_t rows = wide == THIN ? 1 : width, entries = 0;
+    uint64_t rows = rows_of(wide), entries = 0;
     put(slot, 0, height == 0 ? 1 : 2);
     put(slot, 1, rows);
     for (uint64_t i = 0; i < rows; i++) {
@@ -50,7 +60,7 @@ static uint64_t plant(uint64_t slot, int height, enum wide wide) {
             put_row(slot, i, top += GAP, 256, 16);
         } else {
             slots++;
-            below = plant(child, height - 1, wide != ON_THE_WAY || i + 2 < rows ? THIN : i + 2 == rows ? BESIDE : ON_THE_WAY);
+            below = plant(child, height - 1, child_of(wide, rows - 1 - i));
             put_row(slot, i, top, child << 40 | below << 20, 16 * below);
         }
         entries += below;
@@ -58,14 +68,28 @@ static uint64_t plant(uint64_t slot, int height, enum wide wide) {
     return entries;
 }
 
-static void tree(int depth, uint64_t rows) {
-    slots = 1, top = 0, width = rows;
-    pool_n = alarm_pool_len(NODES, order, minimum);
-    if (alarm_open(pool, pool_n, NODES, order, minimum))
+static void planted(uint64_t nodes, int depth, enum wide wide) {
+    slots = 1, top = 0;
+    pool_n = alarm_pool_len(nodes, order, minimum);
+    if (pool_n > ROOM || alarm_open(pool, pool_n, nodes, order, minimum))
         exit(1);
-    plant(0, depth - 1, ON_THE_WAY);
+    plant(0, depth - 1, wide);
     if (alarm_totals(pool, pool_n, told))
         exit(1);
+}
+
+static void tree(int depth, uint64_t rows) {
+    width = rows;
+    planted(NODES, depth, ON_THE_WAY);
+}
+
+/* The other one, as deep as there are nodes for; packed it is as deep. */
+static void full_tree(void) {
+    uint64_t below = 1, more;
+    int depth = 2;
+    while (depth < ALARM_DEPTH_MOST && (more = 1 + order * below, 1 + 2 * more <= ALARM_NODES_MOST))
+        below = more, depth++;
+    planted(1 + 2 * below, depth, OVER_TWO);
 }
 
 /* CALLS, each with buffers that are not on its stack. */
@@ -73,6 +97,7 @@ static void tree(int depth, uint64_t rows) {
 static uint32_t length(void) { return alarm_pool_len(NODES, order, minimum) == 0; }
 static uint32_t opening(void) { return alarm_open(pool, pool_n, NODES, order, minimum); }
 static uint32_t totals(void) { return alarm_totals(pool, pool_n, told); }
+static uint32_t pack(void) { return alarm_pack(pool, pool_n, target, pool_n); }
 static uint32_t set(void) { return alarm_set(pool, pool_n, batch, batch_n, 256, 16, counts); }
 static uint32_t set_each(void) { return alarm_set_each(pool, pool_n, batch, batch_n, places, batch_n, sizes, batch_n, counts); }
 static uint32_t take(void) { return alarm_remove(pool, pool_n, batch, batch_n, counts); }
@@ -147,8 +172,24 @@ static size_t removals(void) {
     return most;
 }
 
-enum { CALLS = 14 };
-static const char *names[CALLS] = {"pool_len", "open", "totals", "set", "set_each", "compare", "remove",
+/* The pool at hand, packed into one of its settings. */
+static size_t packed(void) {
+    uint64_t nodes = alarm_word(pool + 8);
+    if (alarm_open(target, pool_n, nodes, order, minimum))
+        exit(1);
+    return measure(pack);
+}
+
+static size_t packings(void) {
+    tree(8, order);
+    size_t from = packed();
+    full_tree();
+    size_t to = packed();
+    return from > to ? from : to;
+}
+
+enum { CALLS = 15 };
+static const char *names[CALLS] = {"pool_len", "open", "totals", "pack", "set", "set_each", "compare", "remove",
                                    "get", "scan", "scan, down", "frame", "write_leaf", "write_interior", "read_frame"};
 static size_t seen[3][CALLS];
 
@@ -159,6 +200,7 @@ static void at_order(uint64_t n, size_t *most) {
     *most++ = measure(opening);
     tree(8, order);
     *most++ = measure(totals);
+    *most++ = packings();
     *most++ = batches(set, 7);
     *most++ = batches(set_each, 7);
     *most++ = batches(compare, 7);

@@ -59,4 +59,7 @@ impl Library for Archive {
     fn write_interior(&self, count: u64, f: &RawFrame, line: &mut [u8], len: &mut u64) -> u32 {
         raw::write_interior(count, &f.keys, &f.narrow, &f.live, &f.dead, &f.wide, line, len)
     }
+    fn pack(&self, source: &[u8], target: &mut [u8]) -> u32 {
+        raw::pack(source, target)
+    }
 }

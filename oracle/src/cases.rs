@@ -1,5 +1,6 @@
-//! The numbered cases of document 01, in its order, and the readings of what it leaves open, whose reasons are in docs/DECISIONS.md: as lines
-//! that crates/trial_replay replays. What is wanted is written out here, and every answer is held to it as its line is made.
+//! The numbered cases of document 01, in its order, and the readings of what it and document 02 leave open, whose reasons are in
+//! docs/DECISIONS.md: as lines that crates/trial_replay replays. What is wanted is written out here, and every answer is held to it as its line
+//! is made.
 use crate::lines::Lines;
 use crate::wanted::{down, entry, grove, set, two_groves, up, way_down, DESK};
 use plain::tree::{Index, Node};
@@ -9,7 +10,7 @@ use plain::{Action, Call, Entry, Expectation, Request, Settings};
 pub const CASES: [fn(&mut Lines); 14] =
     [case_1, case_2, case_3, case_4, case_5, case_6, case_7, case_8, case_9, case_10, case_11, case_12, case_13, case_14];
 
-pub const READINGS: [fn(&mut Lines); 17] = [
+pub const READINGS: [fn(&mut Lines); 27] = [
     slots_of_p,
     compare_removes,
     dead_entry,
@@ -27,6 +28,16 @@ pub const READINGS: [fn(&mut Lines); 17] = [
     depth_8,
     excluded_end,
     size_at_least,
+    packs_p,
+    packed_and_set,
+    emptied_is_new,
+    just_as_large,
+    first_of_three,
+    nothing_to_pack,
+    packed_twice,
+    worn_is_packed,
+    unsound_first,
+    dead_ones_packed,
 ];
 
 pub fn write(lines: &mut Lines) {
@@ -302,4 +313,188 @@ fn size_at_least(l: &mut Lines) {
         l.lists(Request { least, ..up(Unbounded, Unbounded) }, 9, &listed, opened, false);
         l.lists(Request { least, ..down(Unbounded, Unbounded) }, 9, &backwards, opened, false);
     }
+}
+
+/// 18. P packs to leaves 1,2,3,4 and 5, in the slots 0, 1 and 2: the last node of a level may be below the minimum. P is only read.
+fn packs_p(l: &mut Lines) {
+    l.p();
+    l.beside(DESK);
+    l.packs();
+    l.turn();
+    l.tree_is(&[2], &[&[1, 2, 3, 4], &[5]]);
+    l.slots_are(&[2, 1, 1]);
+    l.turn();
+    l.tree_is(&[2], &[&[1, 2, 3], &[4, 5]]);
+}
+
+/// 19. There 5 set again is a change that leaves its leaf below the minimum, and the two are evened out; 6 set makes the leaf long enough.
+fn packed_and_set(l: &mut Lines) {
+    l.p();
+    l.beside(DESK);
+    l.packs();
+    l.turn();
+    l.done(&set(&[5]), [0, 1, 0, 0]);
+    l.tree_is(&[2], &[&[1, 2, 3], &[4, 5]]);
+
+    l.turn();
+    l.beside(DESK);
+    l.packs();
+    l.turn();
+    l.done(&set(&[6]), [1, 0, 0, 0]);
+    l.tree_is(&[2], &[&[1, 2, 3, 4], &[5, 6]]);
+}
+
+/// 20. A target that was emptied again is new, one that holds a dead entry is not.
+fn emptied_is_new(l: &mut Lines) {
+    l.p();
+    l.turn();
+    l.p();
+    l.turn();
+    l.does_not_pack(18);
+    l.turn();
+    l.done(&Call::remove(&[1, 2, 3, 5]), [0, 0, 4, 0]);
+    l.done(&Call::set(&[4], 0, 0), [0, 1, 0, 0]);
+    l.turn();
+    l.does_not_pack(18);
+    l.turn();
+    l.done(&Call::remove(&[4]), [0, 0, 1, 0]);
+    l.turn();
+    l.packs();
+    l.turn();
+    l.tree_is(&[2], &[&[1, 2, 3, 4], &[5]]);
+}
+
+/// Twenty-one keys, one by one: six leaves, and with them nine nodes, are the fewest that hold them.
+fn twenty_one(l: &mut Lines) {
+    l.new_pool(32);
+    l.one_by_one(1..=21);
+}
+const LEAVES_OF_21: [&[u64]; 6] = [&[1, 2, 3, 4], &[5, 6, 7, 8], &[9, 10, 11, 12], &[13, 14, 15, 16], &[17, 18, 19, 20], &[21]];
+
+/// 21. A target with just as many nodes as the packed tree needs, its root's too, and one with a node less.
+fn just_as_large(l: &mut Lines) {
+    twenty_one(l);
+    l.beside(Settings { nodes: 8, ..DESK });
+    l.does_not_pack(7);
+    l.beside(Settings { nodes: 9, ..DESK });
+    l.packs();
+    l.turn();
+    l.tree_is(&[2, 4, 2], &LEAVES_OF_21);
+    l.refused(&set(&[22]), 7);
+}
+
+/// 22. A target to which 17, 18 and 7 apply, then 18 and 7, then 7, then none. It is 17 where the minimum alone differs, too.
+fn first_of_three(l: &mut Lines) {
+    twenty_one(l);
+    for (order, minimum) in [(5, 2), (4, 1)] {
+        l.turn();
+        l.open(Settings { nodes: 8, order, minimum });
+        l.done(&set(&[7]), [1, 0, 0, 0]);
+        l.turn();
+        l.does_not_pack(17);
+        l.beside(Settings { nodes: 16, order, minimum });
+        l.does_not_pack(17);
+    }
+    l.turn();
+    l.new_pool(8);
+    l.done(&set(&[7]), [1, 0, 0, 0]);
+    l.turn();
+    l.does_not_pack(18);
+    l.turn();
+    l.done(&Call::remove(&[7]), [0, 0, 1, 0]);
+    l.turn();
+    l.does_not_pack(7);
+    l.beside(DESK);
+    l.packs();
+}
+
+/// 23. An empty source leaves the target as it was, which must be new all the same.
+fn nothing_to_pack(l: &mut Lines) {
+    l.new_pool(8);
+    l.beside(DESK);
+    let before = l.other_pool().to_vec();
+    l.packs();
+    assert_eq!(l.other_pool(), before);
+    l.turn();
+    l.frames_are(&["01"]);
+    l.done(&set(&[1]), [1, 0, 0, 0]);
+    l.turn();
+    l.does_not_pack(18);
+}
+
+/// 24. Packed a second time, or packed from what was packed, the bytes are the same.
+fn packed_twice(l: &mut Lines) {
+    twenty_one(l);
+    l.beside(DESK);
+    l.packs();
+    let packed = l.other_pool().to_vec();
+    l.beside(DESK);
+    l.packs();
+    assert_eq!(l.other_pool(), packed);
+    l.turn();
+    l.beside(DESK);
+    l.packs();
+    assert_eq!(l.other_pool(), packed);
+}
+
+/// 25. Worn pools of depth 3.
+///
+/// Ten leaves to which clearing has left two keys each pack to five, and the last interior keeps one child. Six leaves that have one or two keys
+/// pack to three, and the tree loses a level.
+fn worn_is_packed(l: &mut Lines) {
+    l.new_pool(32);
+    l.one_by_one(1..=40);
+    for k in (1..=40).step_by(4) {
+        l.done(&Call::remove(&[k + 1, k + 2]), [0, 0, 2, 0]);
+    }
+    let halves: Vec<[u64; 2]> = (0..10).map(|i| [4 * i + 1, 4 * i + 4]).collect();
+    let leaves: Vec<&[u64]> = halves.iter().map(|h| &h[..]).collect();
+    l.tree_is(&[3, 4, 3, 3], &leaves);
+    l.beside(DESK);
+    l.packs();
+    l.turn();
+    l.tree_is(&[2, 4, 1], &[&[1, 4, 5, 8], &[9, 12, 13, 16], &[17, 20, 21, 24], &[25, 28, 29, 32], &[33, 36, 37, 40]]);
+    l.totals_are(20, 0, 320);
+
+    let x = two_groves(32, &[&[1], &[2, 3], &[4]], &[&[5, 6], &[7], &[8, 9]]);
+    l.by_hand(Settings { nodes: 32, ..DESK }, &x);
+    l.beside(DESK);
+    l.packs();
+    l.turn();
+    l.tree_is(&[3], &[&[1, 2, 3, 4], &[5, 6, 7, 8], &[9]]);
+    l.slots_are(&[2, 1, 1, 1]);
+}
+
+/// 26. Either pool not sound, a target of no bytes too: 2, whatever else applies.
+fn unsound_first(l: &mut Lines) {
+    let broad = Settings { nodes: 8, ..BROAD };
+    l.p();
+    l.turn();
+    l.open_refused(16, 4, 2, 0);
+    l.turn();
+    l.does_not_pack(2);
+    l.beside(broad);
+    l.does_not_pack(17);
+    l.damage();
+    l.does_not_pack(2);
+
+    l.p();
+    l.turn();
+    l.open(broad);
+    l.done(&set(&[1]), [1, 0, 0, 0]);
+    l.damage();
+    l.turn();
+    l.does_not_pack(2);
+}
+
+/// 27. Dead entries are packed like the others.
+fn dead_ones_packed(l: &mut Lines) {
+    l.p();
+    l.done(&Call::set(&[2], 0, 5), [0, 1, 0, 0]);
+    l.beside(DESK);
+    l.packs();
+    l.turn();
+    l.totals_are(4, 1, 69);
+    l.gets(&[2, 3], &[Entry { key: 2, place: 0, size: 5 }, entry(3)]);
+    l.lists(up(Unbounded, Included(4)), 9, &[1, 3, 4], 3, false);
 }

@@ -5,6 +5,7 @@ pub mod damage;
 pub mod frames;
 pub mod library;
 pub mod lines;
+pub mod packed;
 pub mod parts;
 pub mod random;
 pub mod reach;
@@ -19,5 +20,6 @@ pub mod typed;
 pub mod variants;
 pub mod walk;
 pub mod wanted;
+pub mod worn;
 
 pub use library::{library, Library};

@@ -1,4 +1,4 @@
-//! The library's calls on numbers and slices. 0 means done, any other answer is document 01's number.
+//! The library's calls on numbers and slices. 0 means done, any other answer is a number of the table of refusals.
 use plain::{Action, Bound, Call, Expectation, Operation, Request};
 
 /// A frame by value, as the library gives it: kind (the header byte) and count, then 32 places a field.
@@ -65,6 +65,8 @@ pub trait Library {
     fn read_frame(&self, line: &[u8], frame: &mut RawFrame) -> u32;
     fn write_leaf(&self, count: u64, keys: &[u64; 32], places: &[u64; 32], sizes: &[u32; 32], line: &mut [u8], len: &mut u64) -> u32;
     fn write_interior(&self, count: u64, frame: &RawFrame, line: &mut [u8], len: &mut u64) -> u32;
+    /// The source's tree, packed, in the target.
+    fn pack(&self, source: &[u8], target: &mut [u8]) -> u32;
 
     fn batch(&self, pool: &mut [u8], c: &Call, counts: &mut [u64; 4]) -> u32 {
         match c.operation {

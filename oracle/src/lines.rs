@@ -1,5 +1,5 @@
 //! Calls with their answers, a line of numbers each, as crates/trial_replay replays them; the form stands at the head of bin/sample.rs. They are
-//! made on one pool, which each opening makes anew, and no line is made of a call on which the third variant disagrees.
+//! made on the pool at hand, one of two, which each opening makes anew, and no line is made of a call on which the third variant disagrees.
 use crate::frames;
 use crate::library::{bound, Library, RawFrame};
 use crate::script::Step;
@@ -11,7 +11,9 @@ use plain::{Action, Call, Expectation, Operation, Request, Settings};
 
 pub struct Lines<'l> {
     lib: &'l dyn Library,
-    session: Option<Session<'l>>,
+    /// The pool at hand, and the other one.
+    session: Session<'l>,
+    other: Session<'l>,
     made: Vec<String>,
 }
 
@@ -22,22 +24,25 @@ pub struct Told {
 }
 
 impl<'l> Lines<'l> {
-    /// No line yet. The answers will be those of this library.
+    /// No line yet, and no bytes of either pool. The answers will be those of this library.
     pub fn new(lib: &'l dyn Library) -> Lines<'l> {
-        Lines { lib, session: None, made: vec![] }
+        Lines { lib, session: Session::over(lib, vec![]), other: Session::over(lib, vec![]), made: vec![] }
     }
     pub fn made(&self) -> &[String] {
         &self.made
     }
-    fn session(&self) -> &Session<'l> {
-        self.session.as_ref().expect("an opened pool")
-    }
     pub fn pool(&self) -> &[u8] {
-        self.session().pool()
+        self.session.pool()
+    }
+    pub fn other_pool(&self) -> &[u8] {
+        self.other.pool()
+    }
+    pub fn settings(&self) -> Settings {
+        self.session.settings
     }
     /// What the pool holds; none while it is not sound.
     pub fn index(&self) -> Option<&Index> {
-        self.session().index()
+        self.session.index()
     }
 
     fn make(&mut self, kind: u64, arguments: &[u64], answers: &[u64]) {
@@ -61,16 +66,17 @@ impl<'l> Lines<'l> {
         let number = self.lib.open(&mut pool, nodes, order, minimum);
         assert_ne!(number, 0, "an opening that is done");
         self.make(1, &[nodes, order, minimum, len], &[number.into(), check(&pool)]);
+        self.session = Session::over(self.lib, pool);
     }
     pub fn open(&mut self, st: Settings) {
         let session = Session::new(self.lib, st, None).expect("agreed");
         let arguments = [st.nodes as u64, st.order as u64, st.minimum as u64, length(&st) as u64];
         self.make(1, &arguments, &[0, check(session.pool())]);
-        self.session = Some(session);
+        self.session = session;
     }
     /// The words by which the open pool, a new one, differs from the image of this index are put into it.
     pub fn fill(&mut self, index: &Index) {
-        let st = self.session().settings;
+        let st = self.settings();
         let (mut pool, image) = (self.pool().to_vec(), image(&st, index));
         for at in 0..image.len() / 8 {
             let value = word(&image, at);
@@ -79,12 +85,22 @@ impl<'l> Lines<'l> {
                 self.make(11, &[at as u64, value], &[0, check(&pool)]);
             }
         }
-        self.session = Some(self.session().again(st, index));
+        self.session = self.session.again(st, index);
+    }
+    /// The other pool is at hand from here on.
+    pub fn turn(&mut self) {
+        self.make(15, &[], &[]);
+        std::mem::swap(&mut self.session, &mut self.other);
+    }
+    /// The pool at hand is packed into the other one.
+    pub fn pack(&mut self) -> Told {
+        let number = self.session.pack_into(&mut self.other).expect("agreed");
+        self.told(14, &[], vec![number.into(), check(self.other.pool())], vec![])
     }
 
     pub fn play(&mut self, step: &Step) -> Told {
         let before = self.pool().to_vec();
-        self.session.as_mut().expect("an opened pool").step(step).expect("agreed");
+        self.session.step(step).expect("agreed");
         match step {
             Step::Batch(c) => self.batch(c, &before),
             Step::Totals => self.totals(),
@@ -93,6 +109,7 @@ impl<'l> Lines<'l> {
             Step::Frame { i, room } => self.frame(*i, *room),
             Step::Put { word, value } => self.told(11, &[*word as u64, *value], vec![0, check(self.pool())], vec![]),
             Step::Resize { .. } => unreachable!("a pool keeps its length up to the next opening"),
+            Step::Pack { .. } => unreachable!("the target is the other pool, by its own lines"),
         }
     }
 

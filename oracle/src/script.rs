@@ -28,9 +28,14 @@ pub enum Step {
     Resize {
         len: usize,
     },
+    /// The pool is packed into the one that a script of its own leaves. Where `onward`, and where it was done, what follows is done on that one.
+    Pack {
+        target: Script,
+        onward: bool,
+    },
 }
 
-#[derive(Clone, Debug)]
+#[derive(Clone, Debug, PartialEq)]
 pub struct Script {
     pub settings: Settings,
     /// A new pool, or one that holds this index.

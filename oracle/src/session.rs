@@ -1,12 +1,14 @@
-//! One pool under comparison: each step is done by the library on bytes, by the plain model and by the published module's third variant.
-//! Every answer, every lent buffer and every byte of the pool must agree; what must not change is looked at too.
+//! One pool under comparison: each step is done by the library on bytes, by the plain model and by the published module's third variant, which
+//! has no packing. Every answer, every lent buffer and every byte of the pool must agree; what must not change is looked at too.
 use crate::library::Library;
+use crate::packed;
 use crate::script::{Script, Step};
 use crate::stand_in::entry_bytes;
 use crate::tally::Tally;
 use nebari_v3::Tree;
 use plain::frame::{fitted, frames_of, hex};
 use plain::look::{get_all, scan};
+use plain::pack::{self, pack};
 use plain::pool::{image, length, put};
 use plain::refuse::{get_refusal, refusal};
 use plain::sound::index_of;
@@ -71,6 +73,12 @@ impl<'l> Session<'l> {
         Ok(Session { lib, settings, pool, held: Some((x, tree)), tally })
     }
 
+    /// Bytes that are no pool.
+    pub fn over(lib: &'l dyn Library, bytes: Vec<u8>) -> Session<'l> {
+        assert_eq!(index_of(&bytes), None);
+        Session { lib, settings: Settings { nodes: 0, order: 0, minimum: 0 }, pool: bytes, held: None, tally: Tally::default() }
+    }
+
     pub fn run(lib: &'l dyn Library, script: &Script) -> Result<Session<'l>, (usize, Difference)> {
         let mut s = Session::new(lib, script.settings, script.start.as_ref()).map_err(|d| (0, d))?;
         for (i, step) in script.steps.iter().enumerate() {
@@ -111,6 +119,7 @@ impl<'l> Session<'l> {
                 self.pool.resize(*len, 0);
                 self.damaged()
             }
+            Step::Pack { target, onward } => self.pack(target, *onward),
         }
     }
 
@@ -239,5 +248,67 @@ impl<'l> Session<'l> {
         }
         same("frame, length", len, expected_len)?;
         same_bytes("frame, line", &line, &expected)
+    }
+
+    fn pack(&mut self, target: &Script, onward: bool) -> Result<(), Difference> {
+        let mut t = Session::run(self.lib, target).map_err(|(_, d)| format!("the target of a pack: {d}"))?;
+        let number = self.pack_into(&mut t)?;
+        if number == 0 {
+            self.packs_alike(&t)?;
+        }
+        self.tally.add(&t.tally);
+        if number == 0 && onward {
+            (self.settings, self.pool, self.held) = (t.settings, t.pool, t.held);
+        }
+        Ok(())
+    }
+
+    /// This pool is packed into another; the answer.
+    pub fn pack_into(&mut self, target: &mut Session<'_>) -> Result<u32, Difference> {
+        let (source, before) = (self.pool.clone(), target.pool.clone());
+        let wanted = match (&self.held, &target.held) {
+            (Some((x, _)), Some((y, _))) => pack::refusal(&self.settings, &target.settings, x, y),
+            _ => 2,
+        };
+        let got = self.lib.pack(&self.pool, &mut target.pool);
+        same("pack", got, wanted)?;
+        self.tally.answered("pack", got);
+        same_bytes("source after a pack", &self.pool, &source)?;
+        if wanted != 0 {
+            same_bytes("target after a refused pack", &target.pool, &before)?;
+            return Ok(got);
+        }
+        let (x, _) = self.held.as_ref().expect("a sound pool");
+        let y = pack(&target.settings, x);
+        same_bytes("target after a pack", &target.pool, &image(&target.settings, &y))?;
+        same_bytes("entries of the target after a pack", &packed::entries_where_packed(&target.pool)?, &packed::entries(&self.pool))?;
+        self.tally.count(&format!("packed, from depth {} to {}", x.depth(), y.depth()));
+        let tree = Tree::build(target.settings.order, target.settings.minimum, &y.root);
+        target.held = Some((y, tree));
+        Ok(got)
+    }
+
+    /// What was packed answers as this pool does, and packed once more, or this pool once more, the bytes are the same.
+    fn packs_alike(&mut self, target: &Session<'_>) -> Result<(), Difference> {
+        let (lib, st) = (self.lib, target.settings);
+        let (x, _) = self.held.as_ref().expect("a sound pool");
+        let keys: Vec<u64> = x.entries().iter().map(|e| e.key).collect();
+        for pool in [&self.pool, &target.pool] {
+            let (mut out, mut told, mut totals) = (pattern(24 * keys.len()), [UNTOLD; 2], [UNTOLD; 3]);
+            same("packed, get of all keys", lib.get(pool, &keys, &mut out, &mut told), 0)?;
+            same("packed, get of all keys", told, [keys.len() as u64, 0])?;
+            same_bytes("packed, get of all keys", &out, &packed::entries(&self.pool))?;
+            same("packed, totals", lib.totals(pool, &mut totals), 0)?;
+            let t = x.root.totals();
+            same("packed, totals", totals, [t.live, t.dead, t.size])?;
+        }
+        self.tally.count("packed, both pools asked for all they hold");
+        for (source, what) in [(&self.pool, "packed again"), (&target.pool, "packed from the packed")] {
+            let mut again = image(&st, &Index::new(st.nodes));
+            same(what, lib.pack(source, &mut again), 0)?;
+            same_bytes(what, &again, &target.pool)?;
+            self.tally.count(&format!("{what}, the same bytes"));
+        }
+        Ok(())
     }
 }

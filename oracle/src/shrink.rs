@@ -8,7 +8,7 @@ fn fails(lib: &dyn Library, s: &Script) -> Option<(usize, Difference)> {
     Session::run(lib, s).err()
 }
 
-/// The same step with one key less, in every way.
+/// The same step with one key less, or one step less for the target of a packing, in every way.
 fn fewer_keys(step: &Step) -> Vec<Step> {
     match step {
         Step::Batch(c) => (0..c.keys.len())
@@ -27,6 +27,13 @@ fn fewer_keys(step: &Step) -> Vec<Step> {
                 let mut keys = keys.clone();
                 keys.remove(i);
                 Step::Get { keys, room: *room }
+            })
+            .collect(),
+        Step::Pack { target, onward } => (0..target.steps.len())
+            .map(|i| {
+                let mut target = target.clone();
+                target.steps.remove(i);
+                Step::Pack { target, onward: *onward }
             })
             .collect(),
         _ => vec![],

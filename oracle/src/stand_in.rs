@@ -2,6 +2,7 @@
 use crate::library::{Library, RawFrame};
 use plain::frame::{write_frame, write_node, Branch, Frame};
 use plain::look::{get_all, scan};
+use plain::pack;
 use plain::pool::{image, length, length_or_none, settings};
 use plain::read_frame::read_line;
 use plain::refuse::{get_refusal, refusal};
@@ -142,5 +143,13 @@ impl Library for StandIn {
         let bs =
             (0..count as usize).map(|i| Branch { key: f.keys[i], child: f.narrow[i], live: f.live[i], dead: f.dead[i], size: f.wide[i] }).collect();
         put_line(write_frame(line.len(), &Frame::Interior(bs)), line, len)
+    }
+    fn pack(&self, source: &[u8], target: &mut [u8]) -> u32 {
+        let (Some((st, x)), Some((su, y))) = (index_of(source), index_of(target)) else { return 2 };
+        let n = pack::refusal(&st, &su, &x, &y);
+        if n == 0 {
+            target.copy_from_slice(&image(&su, &pack::pack(&su, &x)));
+        }
+        n
     }
 }

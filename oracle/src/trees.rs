@@ -93,6 +93,30 @@ fn grow(r: &mut Random, st: &Settings, depth: usize, root: bool, gap: usize, key
     Node::interior(0, (0..n).map(|_| grow(r, st, depth - 1, false, gap, key, left)).collect())
 }
 
+/// A tree over some entries, all its slots 0: each level is cut at random into nodes of `fewest` to order, until one is left.
+pub fn loose(r: &mut Random, entries: &[Entry], fewest: usize, order: usize) -> Node {
+    loop {
+        let mut level: Vec<Node> = parts(r, entries.to_vec(), fewest, order).into_iter().map(|es| Node::leaf(0, es)).collect();
+        while level.len() > 1 {
+            level = parts(r, level, fewest, order).into_iter().map(|ns| Node::interior(0, ns)).collect();
+        }
+        let root = level.pop().unwrap_or_else(|| Node::leaf(0, vec![]));
+        if root.depth() <= 8 {
+            return root;
+        }
+    }
+}
+
+fn parts<T>(r: &mut Random, items: Vec<T>, fewest: usize, order: usize) -> Vec<Vec<T>> {
+    let mut out = vec![];
+    let mut items = items.into_iter().peekable();
+    while items.peek().is_some() {
+        let n = r.between(fewest, order);
+        out.push(items.by_ref().take(n).collect());
+    }
+    out
+}
+
 /// 1 to order, the ends more often.
 fn some(r: &mut Random, order: usize) -> usize {
     match r.below(6) {

@@ -101,4 +101,7 @@ impl Library for Typed {
         let branches = rows(count, |i| Branch { key: f.keys[i], child: f.narrow[i], live: f.live[i], dead: f.dead[i], size: f.wide[i] });
         tell(write_interior(&branches, line), len, |l| l.len() as u64)
     }
+    fn pack(&self, source: &[u8], target: &mut [u8]) -> u32 {
+        tell(View::new(source).pack_into(&mut Pool::new(target)), &mut (), |()| ())
+    }
 }

@@ -33,7 +33,7 @@ impl Keys {
             _ => Keys::Any,
         }
     }
-    fn one(&mut self, r: &mut Random) -> u64 {
+    pub(crate) fn one(&mut self, r: &mut Random) -> u64 {
         match self {
             Keys::Below(n) => r.below(*n as usize) as u64,
             Keys::Ascending(next) => {
@@ -46,7 +46,7 @@ impl Keys {
     }
 }
 
-fn reference(r: &mut Random) -> Reference {
+pub(crate) fn reference(r: &mut Random) -> Reference {
     let (place, size) = (r.next(), r.next() as u32);
     Reference { place: r.pick(&[0, 1, 2, place, place, u64::MAX]), size: r.pick(&[0, 1, 16, 17, size, u32::MAX]) }
 }

@@ -112,6 +112,32 @@ impl Lines<'_> {
         assert_eq!(t.output, entry_bytes(&entries(keys)));
     }
 
+    /// The pool at hand is packed into the other one, and is as it was.
+    #[track_caller]
+    pub fn packs(&mut self) {
+        let before = self.pool().to_vec();
+        assert_eq!(self.pack().answers[0], 0);
+        assert_eq!(self.pool(), before);
+    }
+    /// It is not, and both are as they were.
+    #[track_caller]
+    pub fn does_not_pack(&mut self, number: u64) {
+        let before = (self.pool().to_vec(), self.other_pool().to_vec());
+        assert_eq!(self.pack().answers[0], number);
+        assert_eq!((self.pool(), self.other_pool()), (&before.0[..], &before.1[..]));
+    }
+    /// The last word of the pool at hand, one of an unused slot, is no longer 0.
+    pub fn damage(&mut self) {
+        let word = self.pool().len() / 8 - 1;
+        self.play(&Step::Put { word, value: 1 });
+    }
+    /// The other pool is opened; the one at hand stays so.
+    pub fn beside(&mut self, st: Settings) {
+        self.turn();
+        self.open(st);
+        self.turn();
+    }
+
     /// All frames of the pool, as lines; behind the last there is none.
     #[track_caller]
     fn all_frames(&mut self) -> Vec<String> {

@@ -1,11 +1,15 @@
 //! The comparison notices a library that is wrong in one thing.
 use oracle::library::{Library, RawFrame};
+use oracle::packed::entries_where_packed;
 use oracle::parts::Work;
 use oracle::shrink::shrink;
 use oracle::stand_in::StandIn;
+use oracle::trees;
+use plain::pack::{is_new, packed, refusal};
 use plain::pool::{image, put, word};
 use plain::sound::index_of;
-use plain::{Call, Operation, Request};
+use plain::tree::{Index, Items, Node};
+use plain::{Call, Entry, Operation, Request, Settings};
 use std::time::{Duration, Instant};
 
 #[derive(Clone, Copy, Debug, PartialEq)]
@@ -31,8 +35,34 @@ enum Fault {
     ReadsCapitals,
     WritesDisorder,
     OpensWithAnyMinimum,
+    LeavesOfOrderLessOne,
+    ShortLeafFirst,
+    NumbersLevelByLevel,
+    PacksTheLiveAlone,
+    ComparesOrdersAlone,
+    AsksIfNewFirst,
+    AsksForRoomFirst,
+    AsksForANodeMore,
+    DeadEntriesAreNew,
+    TestsTheSourceAlone,
+    WritesTheTargetWhenRefused,
 }
 use Fault::*;
+
+/// They show in the part of packing.
+const OF_PACKING: [Fault; 11] = [
+    LeavesOfOrderLessOne,
+    ShortLeafFirst,
+    NumbersLevelByLevel,
+    PacksTheLiveAlone,
+    ComparesOrdersAlone,
+    AsksIfNewFirst,
+    AsksForRoomFirst,
+    AsksForANodeMore,
+    DeadEntriesAreNew,
+    TestsTheSourceAlone,
+    WritesTheTargetWhenRefused,
+];
 
 struct Wrong(Fault);
 
@@ -75,6 +105,58 @@ impl Wrong {
             _ => {}
         }
         number
+    }
+
+    /// The refusal of a packing, with this fault.
+    fn pack_refusal(&self, st: &Settings, su: &Settings, x: &Index, y: &Index) -> u32 {
+        let nodes = packed(su.order, &x.entries()).nodes();
+        match self.0 {
+            ComparesOrdersAlone if st.order == su.order => refusal(su, su, x, y),
+            AsksIfNewFirst if !is_new(y) => 18,
+            AsksForRoomFirst if su.nodes < nodes && refusal(st, su, x, y) == 18 => 7,
+            AsksForANodeMore if su.nodes == nodes && refusal(st, su, x, y) == 0 => 7,
+            DeadEntriesAreNew if y.root.totals().live == 0 => refusal(st, su, x, &Index::new(su.nodes)),
+            _ => refusal(st, su, x, y),
+        }
+    }
+
+    /// What is packed, with this fault.
+    fn packed(&self, su: &Settings, x: &Index) -> Index {
+        let es = x.entries();
+        let mut root = match self.0 {
+            LeavesOfOrderLessOne => packed(su.order - 1, &es),
+            ShortLeafFirst if !es.is_empty() => {
+                let (short, full) = es.split_at((es.len() - 1) % su.order + 1);
+                let mut level: Vec<Node> = std::iter::once(short).chain(full.chunks(su.order)).map(|part| Node::leaf(0, part.to_vec())).collect();
+                while level.len() > 1 {
+                    level = level.chunks(su.order).map(|part| Node::interior(0, part.to_vec())).collect();
+                }
+                trees::placed(level.remove(0), su.nodes, Option::None).root
+            }
+            PacksTheLiveAlone => packed(su.order, &es.into_iter().filter(|e| e.place != 0).collect::<Vec<_>>()),
+            _ => packed(su.order, &es),
+        };
+        if self.is(NumbersLevelByLevel) {
+            number_by_level(&mut root);
+        }
+        let used = root.nodes();
+        Index { root, unused: (used..su.nodes).collect() }
+    }
+}
+
+fn number_by_level(root: &mut Node) {
+    let mut next = 0;
+    let mut level = vec![root];
+    while !level.is_empty() {
+        let mut below = vec![];
+        for n in level {
+            n.slot = next;
+            next += 1;
+            if let Items::Nodes(ns) = &mut n.items {
+                below.extend(ns);
+            }
+        }
+        level = below;
     }
 }
 
@@ -158,13 +240,35 @@ impl Library for Wrong {
     fn write_interior(&self, count: u64, f: &RawFrame, line: &mut [u8], len: &mut u64) -> u32 {
         StandIn.write_interior(count, f, line, len)
     }
+    fn pack(&self, source: &[u8], target: &mut [u8]) -> u32 {
+        let Some((st, x)) = index_of(source) else { return 2 };
+        let Some((su, y)) = index_of(target) else { return if self.is(TestsTheSourceAlone) { 18 } else { 2 } };
+        match self.pack_refusal(&st, &su, &x, &y) {
+            0 => {
+                let y = self.packed(&su, &x);
+                if y.root.nodes() <= su.nodes {
+                    target.copy_from_slice(&image(&su, &y));
+                }
+                0
+            }
+            n => {
+                if self.is(WritesTheTargetWhenRefused) && n == 7 {
+                    target[8 * 4] ^= 1;
+                }
+                n
+            }
+        }
+    }
 }
 
-/// The difference that the parts find, each within a second or so.
+/// The difference that the parts find, each within a second or so; of a fault of packing, its own part alone.
 fn noticed(f: Fault) -> Option<String> {
     let lib = Wrong(f);
     let mut work = Work::new(&lib, 3, false);
-    for (_, _, part) in Work::parts() {
+    for (what, _, part) in Work::parts() {
+        if OF_PACKING.contains(&f) && !what.starts_with("packing") {
+            continue;
+        }
         if let Err((script, difference)) = part(&mut work, Instant::now() + Duration::from_millis(700)) {
             return Some(match script {
                 Some(s) => shrink(&lib, s).1,
@@ -199,7 +303,7 @@ fn each_fault_is_noticed() {
         WritesDisorder,
         OpensWithAnyMinimum,
     ];
-    for f in faults {
+    for f in faults.into_iter().chain(OF_PACKING) {
         let found = noticed(f);
         println!("{f:?}: {}", found.as_deref().unwrap_or("NOT NOTICED"));
         assert!(found.is_some(), "{f:?} is not noticed");
@@ -209,4 +313,17 @@ fn each_fault_is_noticed() {
 #[test]
 fn no_fault_none_noticed() {
     assert_eq!(noticed(None), Option::None);
+}
+
+/// What is asked of a packed pool is seen in its bytes, without the plain rules.
+#[test]
+fn bytes_tell_what_is_packed() {
+    let st = Settings { nodes: 16, order: 4, minimum: 2 };
+    let es: Vec<Entry> = (1..=18).map(|key| Entry { key, place: key, size: 1 }).collect();
+    let x = Index { root: packed(4, &es), unused: vec![] };
+    let seen = |f: Fault| entries_where_packed(&image(&st, &Wrong(f).packed(&st, &x)));
+    assert_eq!(seen(None), Ok(oracle::stand_in::entry_bytes(&es)));
+    for f in [LeavesOfOrderLessOne, ShortLeafFirst, NumbersLevelByLevel] {
+        assert!(seen(f).is_err(), "{f:?} is not seen");
+    }
 }

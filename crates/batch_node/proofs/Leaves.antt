@@ -2,8 +2,8 @@
 use mathlib.Core.Path.{_≡_, sym, ap, _∙_, subst}
 use mathlib.Core.Logic.{_≢_}
 use mathlib.Core.Bool.{Bool, false}
-use mathlib.Core.List.{List, [], _∷_, map}
-use Prim.Native.Nat.{ℕ, zero, _<_, max}
+use mathlib.Core.List.{List, map}
+use Prim.Native.Nat.{ℕ, _<_, max}
 use native.Mathlib.Omega.{arith}
 use native.Mathlib.Decide.{ℕ-discrete}
 use lib.ListN.{length, drop, length-map}
@@ -13,7 +13,7 @@ use Rattle.slots.specs.Nodes as S
 use Rattle.slots.proofs.Nodes.{length-nodes, nth-rows, nth-put}
 use Rattle.model.specs.declared.Settings.{Settings}
 use Rattle.model.specs.declared.Entry.{Entry}
-use Rattle.model.specs.Lists.{All, none, one}
+use Rattle.model.specs.Lists.{one}
 use Rattle.model.specs.Tree.{Tree}
 use Rattle.model.specs.Plain.{Task}
 use Rattle.model.specs.Refuse.{Call, tasksOf}
@@ -28,7 +28,8 @@ use Rattle.batch_leaf.specs.declared.Progress.{Progress}
 use Rattle.batch_leaf.specs.Contracts.{ToTakeKey, KeysTaken}
 use Rattle.batch_leaf.specs.Keys.{taking}
 use Rattle.batch_leaf.proofs.Tasks.{taken-unused}
-use Rattle.tree.specs.Bridge.{entryOf, entryRow, nodeFor, cellsOf, Stands, treeAt, unusedOf, Blank}
+use Rattle.tree.specs.Bridge.{entryOf, entryRow, nodeFor, Stands, treeAt, unusedOf, Blank}
+use Rattle.tree.proofs.SoundHolds.{leaf-cells}
 use Rattle.tree.proofs.Unused.{used-in}
 use Rattle.batch_share.proofs.Parents.{unused-rows}
 use Rattle.model.specs.declared.ChangeResult.{ChangeResult}
@@ -56,10 +57,6 @@ module _ (ns : List S.Node) (s : ℕ) (l : List Row) (inside : s < length ns) wh
       nth-rows ns x s l (λ q. used (sym (ap (λ (y : ℕ). nth ns y .kind) q) ∙ e₀)) ∙ b x e₀
 
 -- THE LEAF
-
-below-leaf : (ns : List S.Node) (es : List Entry) → All (Stands ns) (cellsOf zero es)
-below-leaf ns [] = none
-below-leaf ns (e ∷ es) = below-leaf ns es
 
 module _ {st : Settings} {W : List ℕ} {leaf : Subtree} {b : Call} {run : Run} (asks : ToChange st W 0 leaf b run) where
   abbrev s : ℕ
@@ -124,7 +121,7 @@ module _ {st : Settings} {W : List ℕ} {leaf : Subtree} {b : Call} {run : Run} 
           held = took .did .held;
           header = took .did .header;
           answers = record {
-            holds = one node (below-leaf (nodes st W′) (o .node .items));
+            holds = one node (leaf-cells (Stands (nodes st W′)) (o .node .items));
             unused = ap unusedOf (took .did .is) ∙ unused-rows ns s rows
                 ∙ sym (taken-unused (max (length (map entryOf (rowsAt st W s))) (st .order)) (leaf .ceiling) (drop (run .next) ts) (map entryOf (rowsAt st W s)) false carried);
             frame = λ x u e. ap (λ (ms : List S.Node). nth ms x) (took .did .is) ∙ nth-rows ns x s rows (λ q. absurd (omega (arith, e, hit-same x s q)));

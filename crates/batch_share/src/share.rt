@@ -1,7 +1,7 @@
 // A child that is over-full hands rows to its previous sibling, then to the next, and is split where it still does not fit.
 ghost use mathlib.Core.Path.{_≡_};
 ghost use mathlib.Core.List.{_∷_};
-ghost use Prim.Native.Nat.{_+_, _≤_, min};
+ghost use Prim.Native.Nat.{_+_, _≤_};
 ghost use Rattle.words.specs.Words.{words};
 ghost use Rattle.slots.specs.Nodes.{nodes};
 ghost use Rattle.model.specs.Tree.{len, lowest, others};
@@ -17,6 +17,7 @@ use crate::renew::renew;
 use crate::renew::renew_two;
 use model::Settings;
 use model::half;
+use model::lesser;
 use tree_node::child_at;
 use tree_node::weigh;
 use tree_spare::Spare;
@@ -169,11 +170,4 @@ fn handed(pool: &[u8], st: Settings, c: usize, t: usize) -> usize
     let free = st.order - slots::count(pool, st, t);
     let spare = slots::count(pool, st, c) - st.minimum;
     lesser(free, spare)
-}
-
-// The smaller of two numbers.
-fn lesser(a: usize, b: usize) -> usize
-    ensures { λ r. ⌜ r ≡ min a b ⌝ }
-{
-    if a < b { a } else { b }
 }

@@ -10,7 +10,7 @@ use Rattle.survey.specs.Contracts.{Surveyed}
 use Rattle.index_promise.specs.declared.BatchAnswer.the-variants as Batch
 use Rattle.index_promise.specs.Promise.{fails, Batches}
 use Rattle.index_known.specs.Contracts.{Knows}
-use Rattle.index_look.proofs.Keeps.{unsound, sound}
+use Rattle.survey.proofs.Founds.{unsound, sound}
 
 module _ {l : List ℕ} {f : Findings} (s : Surveyed l f) where
   pub batch-unsound : (c : Call) → not (f .sound) ≡ true → Batches c l (Batch.Refused 2) l

@@ -1,4 +1,6 @@
--- `Opens`: opening. `Found`: from the survey of a pool to a batch. `Register`: the third demand, of the calls.
+-- `Opens`: opening. `Found`: from the survey of a pool to a batch. `Register`: the third demand, of the calls. `Packed`: what packing has
+-- done.
 pub mod Opens
 pub mod Found
 pub mod Register
+pub mod Packed

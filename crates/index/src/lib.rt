@@ -1,5 +1,6 @@
 // THE PUBLIC CALLS of the index. Each takes any input, and answers: with what it has done, or with the number of a refusal, and then every
-// byte that was lent is as it was. What each answers stands in crate index_promise (specs/Promise). The calls that read stand in crate index_look.
+// byte that was lent is as it was. What each answers stands in crate index_promise (specs/Promise). The calls that read stand in crate index_look, the
+// one that packs in crate index_pack.
 ghost use Rattle.model.specs.Refuse.{call};
 ghost use Rattle.index_promise.specs.Promise.{Opens, Batches};
 pub use frame_read::read as read_frame;
@@ -10,6 +11,7 @@ pub use index_look::frame;
 pub use index_look::get;
 pub use index_look::scan;
 pub use index_look::totals;
+pub use index_pack::pack;
 use index_promise::BatchAnswer;
 use index_promise::OpenAnswer;
 use model::Operation;

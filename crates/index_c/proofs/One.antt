@@ -11,13 +11,14 @@ use Rattle.model.specs.Frame.{Frame, writeFrame}
 use Rattle.model.specs.Sound.{handed, InLimits}
 use Rattle.tree.specs.Pool.{poolLen}
 use Rattle.frame.proofs.Undoes.{one-written}
-use Rattle.index_promise.specs.Promise.{Where, opening, totalled, batched, got, scanned}
+use Rattle.index_promise.specs.Promise.{Where, opening, totalled, batched, got, scanned, packing}
 use Rattle.frame_text.specs.Answers.{lengthTold}
 use Rattle.index_promise.specs.declared.OpenAnswer.{OpenAnswer}
-use Rattle.index_promise.proofs.Unique.{where-unique, one-opening, one-totals, one-batch, one-get, one-scan, one-frame}
+use Rattle.index_promise.specs.declared.PackAnswer.{PackAnswer}
+use Rattle.index_promise.proofs.Unique.{where-unique, one-opening, one-totals, one-batch, one-get, one-scan, one-frame, one-pack}
 use Rattle.index_c_told.specs.Told.{codeOf, totalNumbers, countNumbers, listedNumbers, scannedNumbers}
 use Rattle.index_c_fields.specs.Fields.{Fields, frameFields}
-use Rattle.index_c.specs.Calls.{Kept, OpenCall, TotalsCall, BatchCall, GetCall, ScanCall, FrameCall, WriteCall, ReadCall}
+use Rattle.index_c.specs.Calls.{Kept, OpenCall, PackCall, TotalsCall, BatchCall, GetCall, ScanCall, FrameCall, WriteCall, ReadCall}
 use Rattle.index_c_told.proofs.Reported.{one-report}
 
 pub one-pool-len : (given : PoolSettings) (r q : ℕ) → Where (InLimits (handed given)) (poolLen given) 0 r → Where (InLimits (handed given)) (poolLen given) 0 q → r ≡ q
@@ -26,6 +27,10 @@ one-pool-len given r q = where-unique
 pub one-open-call : (given : PoolSettings) (l k m : List ℕ) (r q : ℕ) → OpenCall given l r k → OpenCall given l q m → (r ≡ q) × (k ≡ m)
 one-open-call given l k m r q x y =
     let u = one-opening given l k m (x .0) (y .0) (x .1 .0) (y .1 .0) in (x .1 .1 ∙ ap (λ (a : OpenAnswer). codeOf (opening a)) (u .0) ∙ sym (y .1 .1), u .1)
+
+pub one-pack-call : (l m k k′ : List ℕ) (r q : ℕ) → PackCall l m r k → PackCall l m q k′ → (r ≡ q) × (k ≡ k′)
+one-pack-call l m k k′ r q x y =
+    let u = one-pack l m k k′ (x .0) (y .0) (x .1 .0) (y .1 .0) in (x .1 .1 ∙ ap (λ (a : PackAnswer). codeOf (packing a)) (u .0) ∙ sym (y .1 .1), u .1)
 
 pub one-totals-call : (l b b′ b″ : List ℕ) (r q : ℕ) → TotalsCall l b r b′ → TotalsCall l b q b″ → (r ≡ q) × (b′ ≡ b″)
 one-totals-call l b b′ b″ r q x y =

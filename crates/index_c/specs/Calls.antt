@@ -11,7 +11,8 @@ use Rattle.model.specs.Frame.{Frame, writeFrame}
 use Rattle.frame_text.specs.declared.WriteAnswer.{WriteAnswer}
 use Rattle.frame_text.specs.Answers.{lengthTold, Writes}
 use Rattle.index_promise.specs.declared.OpenAnswer.{OpenAnswer}
-use Rattle.index_promise.specs.Promise.{Opens, opening, Totalling, totalled, Batches, batched, Gets, got, Scans, scanned, Frames}
+use Rattle.index_promise.specs.declared.PackAnswer.{PackAnswer}
+use Rattle.index_promise.specs.Promise.{Opens, opening, Totalling, totalled, Batches, batched, Gets, got, Scans, scanned, Frames, Packs, packing}
 use Rattle.index_c_told.specs.Told.{codeOf, Reports, totalNumbers, countNumbers, listedNumbers, scannedNumbers}
 use Rattle.index_c_fields.specs.Fields.{Fields, frameFields}
 
@@ -22,6 +23,10 @@ Kept {R = R} promise told f b r b′ = (a : R) × (promise a × Reports f (told 
 -- OPENING a pool l with the settings given; there is no small buffer
 abbrev pub OpenCall : PoolSettings → List ℕ → ℕ → List ℕ → Type 0
 OpenCall given l r l′ = (a : OpenAnswer) × (Opens given l a l′ × (r ≡ codeOf (opening a)))
+
+-- PACKING a pool l into a pool m; there is no small buffer either
+abbrev pub PackCall : List ℕ → List ℕ → ℕ → List ℕ → Type 0
+PackCall l m r m′ = (a : PackAnswer) × (Packs l m a m′ × (r ≡ codeOf (packing a)))
 
 -- of the pool l, and the small buffer b
 

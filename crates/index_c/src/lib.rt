@@ -3,15 +3,15 @@
 // Each function but the first answers 0 where the call was done, and else the number of the refusal; a refused call leaves every lent
 // buffer as it was, the small ones too. What each answers and leaves stands in specs/Calls. include/alarm_index.h declares them for C.
 ghost use Rattle.model.specs.declared.Operation.the-variants.{Set, Remove, Compare};
+ghost use Rattle.model.specs.Plain.{referenceFor};
+ghost use Rattle.model.specs.Look.{requestFor};
 ghost use Rattle.model.specs.ReadFrame.{readLine};
 ghost use Rattle.model.specs.Sound.{handed, InLimits};
 ghost use Rattle.tree.specs.Pool.{poolLen};
-ghost use Rattle.model.specs.Look.{requestFor};
 ghost use Rattle.frame_text.specs.Contents.{frameOf};
 ghost use Rattle.index_promise.specs.Promise.{Where};
 ghost use Rattle.index_c_given.specs.Given.{settingsFor, expectationFor, actionFor, callFor, callEach, boundFor, directionFor, siftFor, leafContents, interiorContents};
-ghost use Rattle.model.specs.Plain.{referenceFor};
-ghost use Rattle.index_c.specs.Calls.{OpenCall, TotalsCall, BatchCall, GetCall, ScanCall, FrameCall, WriteCall, ReadCall};
+ghost use Rattle.index_c.specs.Calls.{OpenCall, PackCall, TotalsCall, BatchCall, GetCall, ScanCall, FrameCall, WriteCall, ReadCall};
 use index_c_fields::tell_reading;
 use index_c_given::action;
 use index_c_given::bound;
@@ -24,6 +24,7 @@ use index_c_told::tell_counts;
 use index_c_told::tell_get;
 use index_c_told::tell_length;
 use index_c_told::tell_open;
+use index_c_told::tell_pack;
 use index_c_told::tell_scan;
 use index_c_told::tell_totals;
 use model::Operation;
@@ -51,6 +52,15 @@ pub extern "C" fn alarm_open(pool: &mut [u8], nodes: u64, order: u64, minimum: u
     let given = settings(nodes, order, minimum);
     let answer = index::open(pool, given);
     tell_open(answer)
+}
+
+// Copies the entries of a pool into a second, new one, so that every node is full but the last of its level.
+#[no_mangle]
+pub extern "C" fn alarm_pack(source: &[u8], target: &mut [u8]) -> u32
+    ensures { λ r. ⌜ PackCall (now (source .entry)) (now (target .entry)) r (now (target .exit)) ⌝ }
+{
+    let answer = index::pack(source, target);
+    tell_pack(answer)
 }
 
 // Live entries, dead ones, and the sum of the sizes of all.

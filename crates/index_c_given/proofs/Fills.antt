@@ -7,7 +7,7 @@ use mathlib.Core.List.{List, [], _∷_, _++_, map}
 use lib.ListN.{length, set, length-append, length-map}
 use lib.Seq.{set-at, append-snoc}
 use Rattle.model.specs.Lists.{upFrom}
-use Rattle.tree.proofs.Counts.{length-up}
+use Rattle.model.proofs.Numbers.{length-up}
 
 -- l, with ms from place i on
 abbrev pub puts : {A : Type 0} → List A → ℕ → List A → List A

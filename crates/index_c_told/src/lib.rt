@@ -1,12 +1,13 @@
 // An answer as C has it: 0 or a number as the result, and what was done in small lent buffers, which a refusal leaves as they were.
 ghost use mathlib.Core.Path.{_≡_};
-ghost use Rattle.index_promise.specs.Promise.{opening, totalled, batched, got, scanned};
+ghost use Rattle.index_promise.specs.Promise.{opening, totalled, batched, got, scanned, packing};
 ghost use Rattle.frame_text.specs.Answers.{lengthTold};
 ghost use Rattle.index_c_told.specs.Told.{codeOf, Reports, totalNumbers, countNumbers, listedNumbers, scannedNumbers};
 use frame_text::WriteAnswer;
 use index_promise::BatchAnswer;
 use index_promise::GetAnswer;
 use index_promise::OpenAnswer;
+use index_promise::PackAnswer;
 use index_promise::ScanAnswer;
 use index_promise::TotalsAnswer;
 
@@ -16,6 +17,15 @@ pub fn tell_open(answer: OpenAnswer) -> u32
     match answer {
         OpenAnswer::Done => 0,
         OpenAnswer::Refused(n) => n,
+    }
+}
+
+pub fn tell_pack(answer: PackAnswer) -> u32
+    ensures { λ r. ⌜ r ≡ codeOf (packing answer) ⌝ }
+{
+    match answer {
+        PackAnswer::Done => 0,
+        PackAnswer::Refused(n) => n,
     }
 }
 

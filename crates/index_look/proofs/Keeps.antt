@@ -1,7 +1,7 @@
 -- What the layers below have done keeps the promises of the calls. Assumes nothing.
-use Prim.Native.Nat.{ℕ, _≤_}
+use Prim.Native.Nat.{ℕ}
 use mathlib.Core.Path.{_≡_, refl, sym, ap, _∙_}
-use mathlib.Core.Bool.{Bool, true, false, cond, not}
+use mathlib.Core.Bool.{Bool, true, false, cond}
 use mathlib.Core.List.{List, _++_}
 use lib.ListN.{length, drop}
 use Rattle.model.specs.declared.Totals.{Totals}
@@ -11,15 +11,10 @@ use Rattle.model.specs.declared.Request.{Request}
 use Rattle.model.specs.Look.{Listing, Scanned, getAll, scan}
 use Rattle.model.specs.Refuse.{descend}
 use Rattle.model.specs.Frame.{writeNode}
-use borrow.Author.Tests.{not-true, not-false}
-use Rattle.model.proofs.Answers.{told-no}
 use Rattle.tree.specs.Pool.{SoundPool, indexOf}
-use Rattle.survey.specs.declared.Findings.{Findings}
-use Rattle.survey.specs.Contracts.{Surveyed}
 use Rattle.look_output.specs.declared.Listed.{Listed}
 use Rattle.look_output.specs.declared.Scanned as Told
 use Rattle.look_output.specs.Output.{roomIn}
-use Rattle.tree.specs.Contracts.{InPool}
 use Rattle.look.specs.Contracts.{Written}
 use Rattle.frame_text.specs.declared.WriteAnswer.{WriteAnswer}
 use Rattle.frame_text.specs.declared.WriteAnswer.the-variants as Write
@@ -29,22 +24,6 @@ use Rattle.index_promise.specs.declared.TotalsAnswer.the-variants as Totalled
 use Rattle.index_promise.specs.declared.GetAnswer.the-variants as Get
 use Rattle.index_promise.specs.declared.ScanAnswer.the-variants as Scan
 use Rattle.index_promise.specs.Promise.{holds, fails, Left, _leaving_, leaves, Totalling, Gets, Scans, Frames, listed, swept, written}
-
--- A SURVEY
-
-module _ {l : List ℕ} {f : Findings} (s : Surveyed l f) where
-  pub unsound : not (f .sound) ≡ true → SoundPool l → ⊥
-  unsound e = told-no (s .sound) (not-true (f .sound) e)
-
-  module _ (e : not (f .sound) ≡ false) where
-    pub sound : SoundPool l
-    sound = s .sound .holds (not-false (f .sound) e)
-
-    pub in-pool : InPool l (f .settings) (f .height)
-    in-pool = record { sound = sound; own = s .settings (not-false (f .sound) e); tall = s .height (not-false (f .sound) e) }
-
-    pub narrow : f .settings .order ≤ 32
-    narrow = rw (s .settings (not-false (f .sound) e)) (sound .settings .narrow)
 
 -- TOTALS
 

@@ -19,8 +19,10 @@ use Rattle.index_promise.specs.declared.GetAnswer.{GetAnswer}
 use Rattle.index_promise.specs.declared.GetAnswer.the-variants as Get
 use Rattle.index_promise.specs.declared.ScanAnswer.{ScanAnswer}
 use Rattle.index_promise.specs.declared.ScanAnswer.the-variants as Scan
-use Rattle.index_promise.specs.Promise.{Where, holds, fails, Left, _leaving_, Opens, Totalling, Batches, Gets, Scans, Frames}
-use Rattle.index_promise.specs.Promise.{opening, totalled, batched, got, scanned}
+use Rattle.index_promise.specs.declared.PackAnswer.{PackAnswer}
+use Rattle.index_promise.specs.declared.PackAnswer.the-variants as Pack
+use Rattle.index_promise.specs.Promise.{Where, holds, fails, Left, _leaving_, Opens, Totalling, Batches, Gets, Scans, Frames, Packs}
+use Rattle.index_promise.specs.Promise.{opening, totalled, batched, got, scanned, packing}
 
 pub where-unique : {P : Type 0} {A : Type 0} {a b r s : A} → Where P a b r → Where P a b s → r ≡ s
 where-unique (holds p e) (holds q f) = e ∙ sym f
@@ -74,6 +76,10 @@ length-again : (r : WriteAnswer) → again Write.Done Write.Refused (lengthTold 
 length-again (Write.Done n) = refl
 length-again (Write.Refused n) = refl
 
+packing-again : (r : PackAnswer) → again (λ u. Pack.Done) Pack.Refused (packing r) ≡ r
+packing-again Pack.Done = refl
+packing-again (Pack.Refused n) = refl
+
 -- THE CALLS
 
 pub one-opening : (given : PoolSettings) (l k m : List ℕ) (r q : OpenAnswer) → Opens given l r k → Opens given l q m → (r ≡ q) × (k ≡ m)
@@ -93,3 +99,6 @@ one-scan l p out k m = one-left Scan.Done Scan.Refused scanned scan-again
 
 pub one-frame : (l : List ℕ) (i : ℕ) (line k m : List ℕ) (r q : WriteAnswer) → Frames l i line r k → Frames l i line q m → (r ≡ q) × (k ≡ m)
 one-frame l i line k m = one-left Write.Done Write.Refused lengthTold length-again
+
+pub one-pack : (l m k k′ : List ℕ) (r q : PackAnswer) → Packs l m r k → Packs l m q k′ → (r ≡ q) × (k ≡ k′)
+one-pack l m k k′ = one-left (λ u. Pack.Done) Pack.Refused packing packing-again

@@ -12,6 +12,7 @@ use Rattle.model.specs.declared.Request.{Request}
 use Rattle.model.specs.Look.{Listing, Scanned, scan}
 use Rattle.model.specs.Refuse.{Call, answer, get}
 use Rattle.model.specs.Frame.{writeNode}
+use Rattle.model.specs.Pack.{pack}
 use Rattle.model.specs.Sound.{handed, InLimits}
 use Rattle.tree.specs.Pool.{SoundPool, givenIn, settingsIn, indexOf, imageOf, poolLen}
 use Rattle.index_promise.specs.declared.OpenAnswer.{OpenAnswer}
@@ -27,6 +28,8 @@ use Rattle.look_output.specs.declared.Scanned as Told
 use Rattle.look_output.specs.Output.{roomIn, outputOf}
 use Rattle.index_promise.specs.declared.ScanAnswer.{ScanAnswer}
 use Rattle.index_promise.specs.declared.ScanAnswer.the-variants as Scan
+use Rattle.index_promise.specs.declared.PackAnswer.{PackAnswer}
+use Rattle.index_promise.specs.declared.PackAnswer.the-variants as Pack
 use Rattle.frame_text.specs.declared.WriteAnswer.{WriteAnswer}
 use Rattle.frame_text.specs.Answers.{lengthTold}
 
@@ -119,3 +122,14 @@ abbrev pub Frames : List ℕ → ℕ → List ℕ → WriteAnswer → List ℕ �
 Frames l i line r line′ =
     Where (SoundPool l) (leaves length (λ s. s ++ drop (length s) line) line (writeNode i (length line) (indexOf l))) (unsound line)
     (lengthTold r leaving line′)
+
+-- PACKING the pool l into the pool m, which alone is written
+
+abbrev pub packing : PackAnswer → Answer (Unit {0})
+packing Pack.Done = done tt
+packing (Pack.Refused n) = refused n
+
+abbrev pub Packs : List ℕ → List ℕ → PackAnswer → List ℕ → Type 0
+Packs l m r m′ =
+    Where (SoundPool l × SoundPool m) (leaves (λ x. tt) (imageOf (givenIn m)) m (pack (settingsIn l) (settingsIn m) (indexOf l) (indexOf m)))
+    (unsound m) (packing r leaving m′)

@@ -29,3 +29,9 @@ pub enum ScanAnswer {
     Done(Scanned),
     Refused(u32),
 }
+
+// What packing a pool into another answers.
+pub enum PackAnswer {
+    Done,
+    Refused(u32),
+}

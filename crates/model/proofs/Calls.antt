@@ -3,11 +3,11 @@ use mathlib.Core.Path.{_≡_, refl, sym, ap, _∙_}
 use mathlib.Core.Logic.{_⊎_, inl, inr}
 use mathlib.Core.Bool.{Bool, true, false, _&&_, _||_, not, true≢false}
 use mathlib.Core.List.{List, [], _∷_, map}
-use Prim.Native.Nat.{ℕ, zero, suc, _+_, _-_, _^_, _≤_, _<_}
+use Prim.Native.Nat.{ℕ, suc, _-_, _^_, _≤_, _<_}
 use native.Mathlib.Omega.{arith}
 use lib.Dec.{leb, ltb, eqb}
 use lib.ListN.{length, length-map}
-use borrow.Author.Tests.{ltb-true, ltb-false, leb-false, eqb-true, eqb-false, not-false}
+use borrow.Author.Tests.{ltb-false, leb-false, eqb-true, not-false}
 use Rattle.model.specs.declared.Reference.{Reference}
 use Rattle.model.specs.declared.PoolSettings.{PoolSettings}
 use Rattle.model.specs.declared.Settings.{Settings}
@@ -15,17 +15,18 @@ use Rattle.model.specs.declared.Action.{Action}
 use Rattle.model.specs.declared.Action.the-variants as Do
 use Rattle.model.specs.declared.Operation.{Operation}
 use Rattle.model.specs.declared.Operation.the-variants as Op
-use Rattle.model.specs.Lists.{hit, times, upFrom, All, none, one, nil, cons}
-use Rattle.model.specs.Tree.{Index, depth, slotsOf, newIndex}
+use Rattle.model.specs.Lists.{All, none, one, nil, cons}
+use Rattle.model.specs.Tree.{Index, depth, newIndex}
 use Rattle.model.specs.declared.Wish.{Wish}
 use Rattle.model.specs.declared.Wish.the-variants.{Always}
 use Rattle.model.specs.Plain.{references, Task, each, pairs, tasksFor}
 use Rattle.model.specs.Change.{noCeiling}
 use Rattle.model.specs.Refuse.{Call, tasksOf, isRemove, isEach, descend, needed, callRefusal, treeRefusal, refusal}
-use Rattle.model.specs.Sound.{rootFor, handed, InLimits, Sound, Alone, Fits, Ascending, Once}
+use Rattle.model.specs.Sound.{rootFor, handed, InLimits, Sound, Alone, Fits}
 use Rattle.model.specs.Demands.{ReferenceFits, ActionFits, OperationFits, Lent}
 use Rattle.model.specs.Contracts.{Rising, Removing, Grants}
-use Rattle.model.proofs.Lists.{by-test, both-left, both-right, or-left, or-right, all-map, hit-same, hit-other}
+use Rattle.model.proofs.Lists.{by-test, both-left, both-right, or-left, or-right, all-map}
+use Rattle.model.proofs.Numbers.{run-up, once-up}
 use Rattle.model.proofs.Batches.{Room, Headroom}
 
 -- WHAT NO REFUSAL SAYS
@@ -212,52 +213,13 @@ passes st c x s lent q =
 
 -- A NEW INDEX IS SOUND
 
-run-below : (s a m : ℕ) → s < a → times s (upFrom a m) ≡ 0
-run-below s a zero lt = refl
-run-below s a (suc m) lt = omega (arith, hit-other s a (λ e. omega arith), run-below s (suc a) m (omega arith))
-
-run-above : (s a m : ℕ) → a + m ≤ s → times s (upFrom a m) ≡ 0
-run-above s a zero le = refl
-run-above s a (suc m) le = omega (arith, hit-other s a (λ e. omega arith), run-above s (suc a) m (omega arith))
-
-run-inside : (s a m : ℕ) → a ≤ s → s < a + m → times s (upFrom a m) ≡ 1
-run-inside s a zero le lt = absurd (omega arith)
-run-inside s a (suc m) le lt = go (eqb s a) refl (λ g k. run-inside s (suc a) m g k)
-  where
-    go : (t : Bool) → eqb s a ≡ t → (suc a ≤ s → s < suc a + m → times s (upFrom (suc a) m) ≡ 1) → hit s a + times s (upFrom (suc a) m) ≡ 1
-    go true q again =
-        let is : s ≡ a = eqb-true s a q in
-        omega (arith, hit-same s a is, run-below s (suc a) m (omega arith))
-    go false q again =
-        let ne : (s ≡ a → ⊥) = eqb-false s a q in
-        let e : times s (upFrom (suc a) m) ≡ 1 = again (omega arith) (omega arith) in
-        omega (arith, hit-other s a ne)
-
-new-once : (n : ℕ) → 0 < n → Once n (slotsOf (newIndex n)) (newIndex n .unused)
-new-once n pos s = by-test (λ (v : ℕ). hit s 0 + 0 + times s (upFrom 1 (n - 1)) ≡ v) (ltb s n) (λ e. inside s (ltb-true s n e)) (λ e. outside (ltb-false s n e))
-  where
-    inside : (s : ℕ) → s < n → hit s 0 + 0 + times s (upFrom 1 (n - 1)) ≡ 1
-    inside zero lt = omega (arith, hit-same 0 0 refl, run-below 0 1 (n - 1) (omega arith))
-    inside (suc s) lt = omega (arith, hit-other (suc s) 0 (λ e. omega arith), run-inside (suc s) 1 (n - 1) (omega arith) (omega arith))
-
-    outside : n ≤ s → hit s 0 + 0 + times s (upFrom 1 (n - 1)) ≡ 0
-    outside le = omega (arith, hit-other s 0 (λ e. omega arith), run-above s 1 (n - 1) (omega arith))
-
-run-over : (a m b : ℕ) → b ≤ a → All (λ f. b ≤ f) (upFrom a m)
-run-over a zero b le = none
-run-over a (suc m) b le = one le (run-over (suc a) m b (omega arith))
-
-run-up : (a m : ℕ) → Ascending (upFrom a m)
-run-up a zero = nil
-run-up a (suc m) = cons (run-over (suc a) m a (omega arith)) (run-up (suc a) m)
-
 pub new-sound : (given : PoolSettings) → InLimits (handed given) → Alone (handed given) (newIndex (given .nodes))
 unfolding rootFor
 new-sound given lim =
     record {
       settings = lim;
       rootSlot = refl;
-      once = new-once (given .nodes) (omega (arith, lim .many));
+      once = once-up (given .nodes) 1 (omega (arith, lim .many));
       shallow = omega arith;
       rooted = omega arith;
       whole = none;

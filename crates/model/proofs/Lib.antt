@@ -4,6 +4,7 @@ pub mod Answers
 pub mod Layers
 pub mod Plain
 pub mod Trees
+pub mod Numbers
 pub mod Settles
 pub mod Changes
 pub mod Batches
@@ -15,5 +16,11 @@ pub mod OverFull
 pub mod Separators
 pub mod Interiors
 pub mod Calls
+pub mod Pieces
+pub mod Packs
+pub mod Levels
+pub mod Least
+pub mod Only
+pub mod Packing
 pub mod Demands
 pub mod Cases

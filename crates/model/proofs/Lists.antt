@@ -116,6 +116,11 @@ parts-at f g [] i z lt h = absurd (not-suc-le-zero lt)
 parts-at f g (x ∷ xs) zero z lt h = all-left (f (g x)) (concat (map f (map g xs))) h
 parts-at f g (x ∷ xs) (suc i) z lt h = parts-at f g xs i z (le-of-suc-le-suc lt) (all-right (f (g x)) (concat (map f (map g xs))) h)
 
+-- what holds of each element of each list holds of each of the lists joined
+pub all-concat : {A B : Type 0} {P : B → Type 0} (f : A → List B) {xs : List A} → All (λ x. All P (f x)) xs → All P (concat (map f xs))
+all-concat f none = none
+all-concat f (one g gs) = all-append g (all-concat f gs)
+
 -- ORDER
 
 module _ {A : Type 0} {R : A → A → Type 0} where

@@ -3,7 +3,7 @@
 use mathlib.Core.Path.{_≡_}
 use mathlib.Core.Bool.{Bool, true, false}
 use mathlib.Core.List.{List, [], _∷_, map}
-use Prim.Native.Nat.{ℕ, _+_, _-_}
+use Prim.Native.Nat.{ℕ, zero, suc, _+_, _-_}
 use Prim.Native.Char.{code}
 use Prim.Native.String as String
 use lib.ListN.{length}
@@ -22,7 +22,7 @@ use Rattle.model.specs.declared.Direction.the-variants.{Up, Down}
 use Rattle.model.specs.declared.Sift.{Sift}
 use Rattle.model.specs.declared.Sift.the-variants.{All, SizeAtLeast}
 use Rattle.model.specs.Lists.{concat, upFrom}
-use Rattle.model.specs.Tree.{Tree, Index, depth, slotsOf, totalsOf, newIndex}
+use Rattle.model.specs.Tree.{Tree, Index, depth, entriesOf, slotsOf, totalsOf, newIndex}
 use Rattle.model.specs.Plain.{entryFor}
 use Rattle.model.specs.Share.{shareOut}
 use Rattle.model.specs.Change.{Batched}
@@ -31,6 +31,7 @@ use Rattle.model.specs.Look.{Listing, scan}
 use Rattle.model.specs.Refuse.{Call, answer, indexAfter, get}
 use Rattle.model.specs.Frame.{Frame, leaf, interior, framesOf, lineOf}
 use Rattle.model.specs.ReadFrame.{readLine}
+use Rattle.model.specs.Pack.{packedIndex, packRefusal}
 
 pub record Case : Type 1 where
   pub Kind : Type 0
@@ -227,6 +228,18 @@ fiveOfEight = after eight (set (1 ∷ []) ∷ set (2 ∷ []) ∷ set (3 ∷ []) 
 abbrev pub light : Index
 light = after desk (record { operation = Op.SetEach; places = 257 ∷ 258 ∷ 259 ∷ []; sizes = 5 ∷ 5 ∷ 5 ∷ []; keys = 1 ∷ 2 ∷ 3 ∷ [] } ∷ []) P
 
+-- a pool of so many nodes, and with another minimum
+abbrev pub tight : ℕ → ℕ → Settings
+tight nodes minimum = handed (record { nodes = nodes; order = 4; minimum = minimum })
+
+-- the slots of the root's children, of a tree that is no leaf
+abbrev pub childSlotsOf : Index → List ℕ
+childSlotsOf x = go (x .height) (x .root)
+  where
+    go : (h : ℕ) → Tree h → List ℕ
+    go zero n = []
+    go (suc h) n = map (λ c. c .slot) (n .items)
+
 abbrev pub readings : List Case
 readings =
     -- the slots of P, and of case 5's tree, whose other slots are unused again
@@ -281,4 +294,13 @@ readings =
     (shape (after desk (drop (11 ∷ 12 ∷ 13 ∷ 14 ∷ []) ∷ [])
     (twoGroves ((1 ∷ 2 ∷ 3 ∷ []) ∷ (4 ∷ 5 ∷ []) ∷ (6 ∷ 7 ∷ 8 ∷ 9 ∷ []) ∷ []) ((10 ∷ 11 ∷ 12 ∷ []) ∷ (13 ∷ 14 ∷ []) ∷ []))))
     (below ((1 ∷ 2 ∷ 3 ∷ []) ∷ (4 ∷ 5 ∷ []) ∷ (6 ∷ 7 ∷ 8 ∷ 9 ∷ []) ∷ (10 ∷ []) ∷ []))
+    -- P packed: the last leaf may be below the minimum
+    ∷ case Shape (shape (packedIndex desk (entriesOf P))) (below ((1 ∷ 2 ∷ 3 ∷ 4 ∷ []) ∷ (5 ∷ []) ∷ []))
+    -- seventeen entries: the first interior's leaves have the slots behind it, and then comes the second interior
+    ∷ case (List (List ℕ) × List ℕ) (let x = packedIndex desk (map (λ k. entryFor k (ref k)) (upFrom 1 17)) in (shape x .leaves, childSlotsOf x))
+    ((1 ∷ 2 ∷ 3 ∷ 4 ∷ []) ∷ (5 ∷ 6 ∷ 7 ∷ 8 ∷ []) ∷ (9 ∷ 10 ∷ 11 ∷ 12 ∷ []) ∷ (13 ∷ 14 ∷ 15 ∷ 16 ∷ []) ∷ (17 ∷ []) ∷ [], 1 ∷ 6 ∷ [])
+    -- 17 before 18 before 7, and a target that has just the nodes that are needed
+    ∷ case (List ℕ)
+    (packRefusal desk (tight 2 1) P P ∷ packRefusal desk (tight 2 2) P P ∷ packRefusal desk (tight 2 2) P (newIndex 2) ∷ packRefusal desk (tight 3 2) P (newIndex 3) ∷ [])
+    (17 ∷ 18 ∷ 7 ∷ 0 ∷ [])
     ∷ []

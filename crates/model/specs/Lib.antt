@@ -1,4 +1,4 @@
--- Document 01 as definitions, one idea a file. `Sound` and `Demands` say what is proved of them, in proofs/;
+-- Document 01 as definitions, one idea a file. `Sound`, `Demands` and `Packing` say what is proved of them, in proofs/;
 -- `Contracts` has the words of the inner crates' contracts.
 pub mod Lists
 pub mod Tree
@@ -10,7 +10,9 @@ pub mod Look
 pub mod Refuse
 pub mod Frame
 pub mod ReadFrame
+pub mod Pack
 pub mod Sound
 pub mod Contracts
 pub mod Demands
+pub mod Packing
 pub mod Cases

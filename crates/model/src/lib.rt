@@ -2,7 +2,7 @@
 //
 // What they mean stands in specs/: a reader with document 01 in hand finds each of its rules there, one file to an idea.
 ghost use mathlib.Core.Path.{_≡_};
-ghost use Prim.Native.Nat.{_≤_};
+ghost use Prim.Native.Nat.{_≤_, min};
 ghost use Rattle.model.specs.Sound as Sound;
 ghost use Rattle.model.specs.Tree.{isMark, noTotals};
 ghost use Rattle.model.specs.Plain.{noCounts};
@@ -160,6 +160,13 @@ pub fn half(n: usize) -> usize
     ensures { λ r. ⌜ r ≡ share.half n ⌝ }
 {
     n / 2 + n % 2
+}
+
+// The smaller of two numbers.
+pub fn lesser(a: usize, b: usize) -> usize
+    ensures { λ r. ⌜ r ≡ min a b ⌝ }
+{
+    if a < b { a } else { b }
 }
 
 // The totals of no entries.

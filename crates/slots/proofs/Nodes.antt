@@ -6,7 +6,7 @@ use Prim.Native.Nat.{ℕ, _+_, _-_, _≤_, _<_}
 use native.Mathlib.Decide.{ℕ-discrete}
 use native.Mathlib.Omega.{arith}
 use mathlib.Core.List.{List, [], _∷_, _++_, map, append-nil}
-use lib.ListN.{length, take, drop, getD, set, replicate, length-map, length-set, List·getD-map, List·getD-append}
+use lib.ListN.{length, take, drop, getD, set, replicate, length-append, length-map, length-set, List·getD-map, List·getD-append}
 use lib.Seq.{getD-set-same, getD-set-other, set-getD, set-set, take-length, drop-length}
 use Rattle.model.specs.declared.Settings.{Settings}
 use Rattle.slots_raw.specs.declared.Row.{Row}
@@ -18,7 +18,7 @@ use Rattle.slots.specs.Nodes.{Node, unused, nodeOf, nodes, nth, rowsAt, 
 use Rattle.slots.specs.Contracts.{NodesPut}
 use Rattle.slots_raw.proofs.Over.{map-set}
 use Rattle.slots_raw.proofs.Chunks.{length-chunks}
-use Rattle.slots.proofs.Pads.{take-pad, part-pad, length-putIn, length-without, opening, opened, closing, closed, replaced}
+use Rattle.slots.proofs.Pads.{take-pad, part-pad, length-putIn, length-without, opening, opened, appended, closing, closed, replaced}
 
 -- ---- slots and nodes
 
@@ -147,6 +147,15 @@ module _ (st : Settings) (W₀ W : List ℕ) (s k n : ℕ) (h : s < st .nodes) (
       rows-now (opening n (rawAt st W₀ s .cells) i a new) (n + a) (putIn l i new) w
       (ap (λ (r : List Row). opening n r i a new) (cells-node st W₀ s held) ∙ opened (st .rows) i a n l new en hi ea g)
       (omega (arith, length-putIn l i new (omega arith))) g
+
+  -- rows are put after the last
+  pub appended-now : (a : ℕ) (new : List Row) → length new ≡ a → n + a ≤ st .rows
+      → SlotsPut st W₀ W (rewritten st W₀ s k (n + a) (over (rawAt st W₀ s .cells) n a new)) → NodesPut st W₀ W (putRows (nodes st W₀) s (rowsAt st W₀ s ++ new))
+  appended-now a new ea g w =
+      let l = rowsAt st W₀ s in
+      rows-now (over (rawAt st W₀ s .cells) n a new) (n + a) (l ++ new) w
+      (ap (λ (r : List Row). over r n a new) (cells-node st W₀ s held) ∙ appended (st .rows) a n l new en ea g)
+      (omega (arith, length-append l new)) g
 
   -- rows are taken out
   pub closed-now : (i a : ℕ) → i + a ≤ n

@@ -80,6 +80,15 @@ opened m i a n l new en h e g =
     ∙ sym (append-assoc (take i l ++ new) (drop i l) (replicate (m - (i + a + (n - i))) blank))
     ∙ pad-by m (m - (i + a + (n - i))) (putIn l i new) (omega (arith, length-putIn l i new (omega arith)))
 
+-- ---- rows put after the last
+
+pub appended : (m a n : ℕ) (l new : List Row) → n ≡ length l → length new ≡ a → n + a ≤ m → over (pad m l) n a new ≡ pad m (l ++ new)
+unfolding over
+appended m a n l new en e g =
+    let first : take n (pad m l) ≡ l = take-pad m n l (omega arith) ∙ take-all n l (omega arith) in
+    ap (λ (r : List Row). r ++ new ++ drop (n + a) (pad m l)) first
+    ∙ ap (l ++ new ++_) (drop-pad m (n + a) l (omega arith) g) ∙ pad-by m (m - (n + a)) (l ++ new) (omega (arith, length-append l new))
+
 -- ---- a gap closed
 
 -- n rows stand in l: those behind the a from i on are moved down, and a blank ones put after them

@@ -5,7 +5,7 @@ use native.Mathlib.Omega.{arith}
 use mathlib.Core.List.{List, [], _∷_, map}
 use lib.ListN.{length, take, drop, getD, set, replicate, length-drop, length-replicate}
 use lib.Seq.{sets, sets-eq}
-use Rattle.words_runs.specs.Moves.{moved, cleared}
+use Rattle.words_runs.specs.Moves.{brought, cleared}
 use Rattle.words.proofs.Laws.{stores, stores-sets}
 use Rattle.model.specs.declared.Settings.{Settings}
 use Rattle.slots_raw.specs.declared.Row.{Row}
@@ -100,12 +100,12 @@ module _ (st : Settings) (W : List ℕ) (s : ℕ) (sh : Shape st W) (h : s < st 
   unfolding cleared over
   rows-cleared b i n bs g = rw (zero-rows n) at (rows-over b i n (replicate (n * rowLen) 0) (bs .start) g (length-replicate (n * rowLen) 0))
 
--- rows of slot s go to slot t
-pub rows-moved : (st : Settings) (W : List ℕ) (s t a b from to n : ℕ) → ToTouchCells st W s from n → ToTouchCells st W t to n → Based st W s a → Based st W t b
-    → SlotsPut st W (moved W (a + (slotHead + from * rowLen)) (b + (slotHead + to * rowLen)) (n * rowLen))
-    (putCells st W t (over (rawAt st W t .cells) to n (part (rawAt st W s .cells) from n)))
-unfolding moved over part
-rows-moved st W s t a b from to n cs ct ba bb =
+-- rows of slot s of some pool, this one or another, go to slot t
+pub rows-brought : (su st : Settings) (U W : List ℕ) (s t a b from to n : ℕ) → ToTouchCells su U s from n → ToTouchCells st W t to n → Based su U s a → Based st W t b
+    → SlotsPut st W (brought U W (a + (slotHead + from * rowLen)) (b + (slotHead + to * rowLen)) (n * rowLen))
+    (putCells st W t (over (rawAt st W t .cells) to n (part (rawAt su U s .cells) from n)))
+unfolding brought over part
+rows-brought su st U W s t a b from to n cs ct ba bb =
     let p = a + (slotHead + from * rowLen) in
-    rw (rows-part st W s (cs .shape) (cs .slot) a from n (ba .start) (cs .within))
-    at (rows-over st W t (ct .shape) (ct .slot) b to n (part W p (n * rowLen)) (bb .start) (ct .within) (length-part W p (n * rowLen) (omega arith)))
+    rw (rows-part su U s (cs .shape) (cs .slot) a from n (ba .start) (cs .within))
+    at (rows-over st W t (ct .shape) (ct .slot) b to n (part U p (n * rowLen)) (bb .start) (ct .within) (length-part U p (n * rowLen) (omega arith)))

@@ -17,10 +17,11 @@ use Rattle.model.specs.Tree.{Tree, entries, slots}
 use Rattle.model.specs.Sound.{Whole, Sorted}
 use Rattle.model.specs.Contracts.{flat}
 use Rattle.model.proofs.Lists.{all-append, all-map, hit-same, hit-other, times-append}
+use Rattle.model.proofs.Numbers.{times-all}
 use Rattle.model.proofs.Trees.{slotsIn, slots-leaf, Ends, separator-ends}
+use Rattle.model.proofs.Numbers.{times-all}
 use Rattle.tree.specs.Bridge.{childOf, treeAt}
 use Rattle.tree.specs.Pool.{firstChild, heightAt, Kinds}
-use Rattle.tree.proofs.Counts.{times-all}
 use Rattle.survey_node.proofs.Rows.{itemsAt}
 use Rattle.survey.proofs.Edges.{edge-end, edge-down}
 

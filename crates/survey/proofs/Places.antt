@@ -13,9 +13,10 @@ use Rattle.slots.specs.Nodes as S
 use Rattle.model.specs.Lists.{hit, times, upFrom}
 use Rattle.model.specs.Sound.{Once}
 use Rattle.model.proofs.Lists.{hit-same, hit-other}
+use Rattle.model.proofs.Numbers.{length-up, map-up}
 use Rattle.model.proofs.Trees.{once-count}
+use Rattle.model.proofs.Numbers.{length-up, map-up}
 use Rattle.tree.specs.Bridge.{unusedOf}
-use Rattle.tree.proofs.Counts.{length-up, map-up}
 use Rattle.tree.proofs.Unused.{used-none, unused-one, unused-past}
 
 -- no number stands in a list more often than the list is long

@@ -21,10 +21,10 @@ use Rattle.model.specs.Tree.{Tree, len, slots, entriesOf, slotsOf}
 use Rattle.model.specs.Sound.{Whole, Rooted, Once}
 use Rattle.model.proofs.Answers.{tells-unique}
 use Rattle.model.proofs.Lists.{all-every, times-append}
+use Rattle.model.proofs.Numbers.{times-all}
 use Rattle.model.proofs.Trees.{once-count, slots-leaf, root-few}
 use Rattle.tree.specs.Bridge.{treeAt, unusedOf}
 use Rattle.tree.specs.Pool.{heightAt, indexIn, settingsIn, nodesIn, indexOf, Zeros, SoundNodes, SoundPool}
-use Rattle.tree.proofs.Counts.{times-all}
 use Rattle.tree.proofs.Cells.{used-tree}
 use Rattle.tree.proofs.SoundHolds.{read-holds}
 use Rattle.tree.proofs.Unused.{used-in, used-none, unused-past, unused-once}

@@ -14,9 +14,9 @@ use Rattle.model.specs.Lists.{times, All}
 use Rattle.model.specs.Tree.{Index, entriesOf, slotsOf}
 use Rattle.model.specs.Sound.{Sound, Alone}
 use Rattle.model.proofs.Lists.{by-test, times-append}
+use Rattle.model.proofs.Numbers.{all-times}
 use Rattle.model.proofs.Trees.{root-few, entries-few, used-most}
 use Rattle.tree.specs.Bridge.{Apart}
-use Rattle.tree.proofs.Counts.{all-times}
 
 pub used-few : (st : Settings) {elsewhere : List ℕ} (x : Index) → Sound st elsewhere x → length (slotsOf x) ≤ 16384
 used-few st x s = omega (arith, used-most st x s, s .settings .bounded)

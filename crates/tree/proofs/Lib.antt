@@ -1,6 +1,5 @@
 -- The laws of specs/. `Rows`, `Sums` and `Bounds` are of a row's words and what they add up to, `Keys` of its key, `Children` of the rows of
 -- a node that holds a tree; `Pools` ends in what this crate is for: sound pools and sound indexes are one and the same.
-pub mod Counts
 pub mod Cells
 pub mod Unused
 pub mod Rows

@@ -16,9 +16,9 @@ use Rattle.model.specs.Lists.{times, upFrom, All, none, one}
 use Rattle.model.specs.Tree.{Index, slotsOf}
 use Rattle.model.specs.Sound.{Sound, Alone}
 use Rattle.model.proofs.Lists.{by-test, all-both, all-map, hit-same, hit-other}
+use Rattle.model.proofs.Numbers.{ascending-same, length-up, map-up}
 use Rattle.tree.specs.Bridge.{Cell, cells, Stands, Holds, unusedOf, Blank, HoldsIndex}
 use Rattle.tree.specs.Pool.{nodeIn, nodesOf}
-use Rattle.tree.proofs.Counts.{ascending-same, length-up, map-up}
 use Rattle.tree.proofs.Few.{slot-inside, slot-outside, slot-low, slots-apart}
 use Rattle.tree.proofs.Cells.{places, cell-places, by-place, Full, full, used-tree}
 use Rattle.tree.proofs.Unused.{used-none, unused-one, unused-past, unused-up}

@@ -35,7 +35,7 @@ row-again ns h r k t =
 
 -- CELLS
 
-leaf-cells : (P : Cell → Type 0) (es : List Entry) → All P (cellsOf zero es)
+pub leaf-cells : (P : Cell → Type 0) (es : List Entry) → All P (cellsOf zero es)
 leaf-cells P [] = none
 leaf-cells P (e ∷ es) = leaf-cells P es
 

@@ -1,5 +1,6 @@
-// The calls of the lines, by their kinds and arguments, done on the pool, with their answers: trial_lines has the table of both.
+// The calls of the lines, by their kinds and arguments, done on the pool at hand, with their answers: trial_lines has the table of both.
 mod batches; // kinds 3 to 6
+mod packs; // kind 14
 
 use index_promise::OpenAnswer;
 use index_promise::TotalsAnswer;
@@ -8,25 +9,34 @@ use trial::at;
 use trial::put_word;
 use trial_lines::form::formed;
 use trial_lines::line::list;
+use trial_lines::pools::Pools;
 use trial_lines::told::Told;
 use trial_lines::told::amiss;
 use trial_lines::told::checked;
 use trial_lines::told::refused;
 
-// How many bytes of the pool are lent: an opening says it, for all calls up to the next one.
-pub fn lent(kind: u64, args: &[u64], before: usize) -> usize {
-    if kind == 1 {
-        return at(args, 3) as usize;
+// Does the call, where it has such arguments.
+pub fn replay(first: &mut [u8], second: &mut [u8], p: Pools, kind: u64, args: &[u64]) -> Told {
+    if !formed(kind, args) {
+        return amiss();
     }
-    before
+    if p.turned {
+        return replay_on(second, first, p, kind, args);
+    }
+    replay_on(first, second, p, kind, args)
+}
+
+// Only a packing is lent the other pool.
+fn replay_on(pool: &mut [u8], other: &mut [u8], p: Pools, kind: u64, args: &[u64]) -> Told {
+    if kind == 14 {
+        return packs::pack(pool, p.lent, other, p.other);
+    }
+    lend(pool, p.lent, kind, args)
 }
 
 // Lends these bytes of the pool to a call.
-pub fn replay(pool: &mut [u8], lent: usize, kind: u64, args: &[u64]) -> Told {
+fn lend(pool: &mut [u8], lent: usize, kind: u64, args: &[u64]) -> Told {
     if lent > pool.len() {
-        return amiss();
-    }
-    if !formed(kind, args) {
         return amiss();
     }
     call(&mut pool[..lent], kind, args)

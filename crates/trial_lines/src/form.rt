@@ -1,4 +1,4 @@
-// The calls by their kinds and arguments, and their answers.
+// The calls by their kinds and arguments, and their answers. There are two pools, and "the pool" is the one at hand.
 //
 // | kind | arguments | answers when done |
 // |---|---|---|
@@ -15,11 +15,13 @@
 // | 11 put | word, value: the pool is damaged, or written by hand | check of the pool |
 // | 12 case | n: what follows is numbered case n | none, not even 0: it is no call |
 // | 13 reading | n: what follows is reading n | the same |
+// | 14 pack | none: the pool is packed into the other one | check of the other pool |
+// | 15 turn | none: the other pool is at hand from here on | none, not even 0: it is no call |
 //
 // What is read from a frame must be the same line when it is written again.
 //
 // A list among the arguments is its length and then its numbers. Before the answers stands 0, or else the number of a refusal and nothing
-// but, where the pool is lent for change, its check.
+// but, where a pool is lent for change, its check.
 use crate::line::list;
 use trial::at;
 use trial::plus;
@@ -42,6 +44,7 @@ pub fn formed(kind: u64, args: &[u64]) -> bool {
         9 => n == 2,
         10 => ends(args, 0) && below(list(args, 0), 256),
         11 => n == 2,
+        14 => n == 0,
         _ => false,
     }
 }

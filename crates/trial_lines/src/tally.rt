@@ -9,10 +9,10 @@ use trial::say;
 use trial::tell;
 use trial::times;
 
-// The kinds of calls are numbered from 1 on.
-const KINDS: u64 = 11;
+// The kinds of calls are numbered from 1 on. Of these 12 and 13 are none, and are not told of.
+const KINDS: u64 = 14;
 
-pub type Tally = [u64; 36];
+pub type Tally = [u64; 45];
 
 pub fn count(tally: &mut Tally, kind: u64, t: Told, same: bool) {
     count_in(tally, 0, t, same);
@@ -47,6 +47,7 @@ pub fn report(tally: &Tally) {
     report_kind(tally, 9, b"frame ");
     report_kind(tally, 10, b"read frame ");
     report_kind(tally, 11, b"put ");
+    report_kind(tally, 14, b"pack ");
     tell(b"", at(tally, 0));
     tell(b" calls, ", at(tally, 1));
     tell(b" refused, ", at(tally, 2));

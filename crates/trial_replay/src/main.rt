@@ -8,16 +8,16 @@
 // The third variant agreed on each call that was done on a sound pool. A refusal's number, the bytes of a pool, and what is read from a
 // frame are of the plain rules alone.
 //
-// A line is one call, in decimal numbers: its kind, how many arguments, the arguments, how many answers, the answers. All calls are done
-// on one pool, which each opening makes anew. A line that cannot be read counts as answered otherwise. The cases and the readings stand
-// behind the sampled calls; what each of them wants is written out in oracle/src/cases.rs.
+// A line is one call, in decimal numbers: its kind, how many arguments, the arguments, how many answers, the answers. There are two pools.
+// All calls are done on the one at hand, which each opening makes anew; kind 14 packs it into the other one, and kind 15, which is no call,
+// turns the two round. A line that cannot be read counts as answered otherwise. Behind the sampled calls stand packings of worn pools, then
+// the cases and the readings; what each of these wants is written out in oracle/src/cases.rs.
 use libc::STDIN_FILENO;
 use trial::at;
 use trial::byte_at;
 use trial::plus;
 use trial::say;
 use trial::tell;
-use trial_calls::lent;
 use trial_calls::replay;
 use trial_lines::cases;
 use trial_lines::cases::Cases;
@@ -28,6 +28,8 @@ use trial_lines::line::is_empty;
 use trial_lines::line::list;
 use trial_lines::line::start;
 use trial_lines::line::take;
+use trial_lines::pools;
+use trial_lines::pools::Pools;
 use trial_lines::tally::Tally;
 use trial_lines::tally::count;
 use trial_lines::tally::report;
@@ -36,28 +38,29 @@ use trial_lines::told::same;
 // The longest pool of the list has 62,120 bytes.
 type Pool = [u8; 65536];
 
-// What is kept between two bytes of the list: how long the pool is, how many lines have ended, what is known of the line, and what of the
-// cases.
+// What is kept between two bytes of the list: which pool is at hand and how long both are, how many lines have ended, what is known of the
+// line, and what of the cases.
 struct State {
-    lent: usize,
+    pools: Pools,
     lines: u64,
     line: Line,
     cases: Cases,
 }
 
 fn main() {
-    let mut pool = [0u8; 65536];
+    let mut first = [0u8; 65536];
+    let mut second = [0u8; 65536];
     let mut numbers = [0u64; 2048];
-    let mut tally = [0u64; 36];
+    let mut tally = [0u64; 45];
     let mut s = State {
-        lent: 0,
+        pools: pools::none(),
         lines: 0,
         line: start(),
         cases: cases::none(),
     };
     let mut turns = u64::MAX;
     while turns > 0 {
-        let t = read_turn(&mut pool, &mut numbers, &mut tally, s);
+        let t = read_turn(&mut first, &mut second, &mut numbers, &mut tally, s);
         s = t.state;
         if !t.more {
             break;
@@ -66,7 +69,7 @@ fn main() {
     }
     // the last line may lack its line feed
     if !is_empty(s.line) {
-        s = finish(&mut pool, &numbers, &mut tally, s);
+        s = finish(&mut first, &mut second, &numbers, &mut tally, s);
     }
     let c = cases::end(s.cases);
     report(&tally);
@@ -80,7 +83,13 @@ struct Turn {
 }
 
 // One read from standard input.
-fn read_turn(pool: &mut Pool, numbers: &mut Numbers, tally: &mut Tally, s: State) -> Turn {
+fn read_turn(
+    first: &mut Pool,
+    second: &mut Pool,
+    numbers: &mut Numbers,
+    tally: &mut Tally,
+    s: State,
+) -> Turn {
     let mut buf = io::buffer();
     let got = libc::read(STDIN_FILENO, &mut buf);
     if got <= 0 {
@@ -92,13 +101,14 @@ fn read_turn(pool: &mut Pool, numbers: &mut Numbers, tally: &mut Tally, s: State
     let n = io::count(got, &buf);
     Turn {
         more: true,
-        state: feed(pool, numbers, tally, s, &buf[..n]),
+        state: feed(first, second, numbers, tally, s, &buf[..n]),
     }
 }
 
 // Another part of the list.
 fn feed(
-    pool: &mut Pool,
+    first: &mut Pool,
+    second: &mut Pool,
     numbers: &mut Numbers,
     tally: &mut Tally,
     before: State,
@@ -107,22 +117,35 @@ fn feed(
     let n = text.len();
     let mut s = before;
     for j in 0..n {
-        s = feed_byte(pool, numbers, tally, s, byte_at(text, j));
+        s = feed_byte(first, second, numbers, tally, s, byte_at(text, j));
     }
     s
 }
 
-fn feed_byte(pool: &mut Pool, numbers: &mut Numbers, tally: &mut Tally, s: State, b: u8) -> State {
+fn feed_byte(
+    first: &mut Pool,
+    second: &mut Pool,
+    numbers: &mut Numbers,
+    tally: &mut Tally,
+    s: State,
+    b: u8,
+) -> State {
     if b == b'\n' {
-        return finish(pool, numbers, tally, s);
+        return finish(first, second, numbers, tally, s);
     }
     let mut r = s;
     r.line = take(numbers, s.line, b);
     r
 }
 
-// A line ends: it begins a case or a reading, or its call is done and counted.
-fn finish(pool: &mut Pool, numbers: &Numbers, tally: &mut Tally, s: State) -> State {
+// A line ends: it begins a case or a reading, it turns the pools round, or its call is done and counted.
+fn finish(
+    first: &mut Pool,
+    second: &mut Pool,
+    numbers: &Numbers,
+    tally: &mut Tally,
+    s: State,
+) -> State {
     let call = line::whole(numbers, s.line);
     let mut r = s;
     r.line = start();
@@ -131,8 +154,13 @@ fn finish(pool: &mut Pool, numbers: &Numbers, tally: &mut Tally, s: State) -> St
         r.cases = cases::begin(s.cases, call);
         return r;
     }
-    r.lent = lent(at(call, 0), list(call, 1), s.lent);
-    let ok = finish_call(pool, tally, r.lent, call);
+    if pools::is_turn(call) {
+        r.pools = pools::turn(s.pools);
+        return r;
+    }
+    let p = pools::lend(s.pools, at(call, 0), list(call, 1));
+    r.pools = p;
+    let ok = finish_call(first, second, tally, p, call);
     if !ok {
         tell(b"line ", r.lines);
         say(b" answered otherwise\n");
@@ -142,11 +170,17 @@ fn finish(pool: &mut Pool, numbers: &Numbers, tally: &mut Tally, s: State) -> St
 }
 
 // Whether the call is answered as its line has it.
-fn finish_call(pool: &mut Pool, tally: &mut Tally, lent: usize, call: &[u64]) -> bool {
+fn finish_call(
+    first: &mut Pool,
+    second: &mut Pool,
+    tally: &mut Tally,
+    p: Pools,
+    call: &[u64],
+) -> bool {
     let kind = at(call, 0);
     let args = list(call, 1);
     let answers = list(call, plus(2, args.len()));
-    let t = replay(pool, lent, kind, args);
+    let t = replay(first, second, p, kind, args);
     let ok = same(t, answers);
     count(tally, kind, t, ok);
     ok

@@ -12,26 +12,37 @@ use lib.Seq.{paste, paste-zero, paste-suc, drop-paste, getD-drop, getD-take, dro
 use lib.Bits.{bitOr, or-zero-l, or-add-and, and-le-r}
 use lib.Dec.{eqb, eqb·suc-zero}
 use borrow.Author.Tests.{ne-eqb}
-use Rattle.words_runs.specs.Moves.{moved, cleared, allZero}
+use Rattle.words_runs.specs.Moves.{brought, moved, cleared, allZero}
 
--- ---- `moved`, to a lower place: the first k words are moved
+-- ---- `brought`: the first k words are brought
 
-pub moved-none : (W : List ℕ) (from to : ℕ) → W ≡ moved W from to 0
-unfolding moved
-moved-none W from to = paste-zero W to (drop from W)
+pub brought-none : (U W : List ℕ) (from to : ℕ) → W ≡ brought U W from to 0
+unfolding brought
+brought-none U W from to = paste-zero W to (drop from U)
+
+pub brought-more : (U W : List ℕ) (from to k : ℕ) → from + k < length U → to + k < length W
+    → set (brought U W from to k) (to + k) (getD U (from + k) 0) ≡ brought U W from to (k + 1)
+unfolding brought
+brought-more U W from to k h g =
+    let s = drop from U in
+    let room : k < length (drop from U) = simp length-drop (omega arith) in
+    ap (λ (x : ℕ). set (paste W to s k) (to + k) x) (sym (getD-drop from U k 0))
+    ∙ paste-suc W to s k 0 g room ∙ ap (λ (j : ℕ). paste W to s j) (sym (add-one k))
+
+-- ---- `moved`, to a lower place: what is read is not written yet
 
 pub moved-more : (W : List ℕ) (from to k : ℕ) → to ≤ from → from + k < length W → set (moved W from to k) (to + k) (getD (moved W from to k) (from + k) 0) ≡ moved W from to (k + 1)
-unfolding moved
+unfolding brought
 moved-more W from to k b h =
     let s = drop from W in
     let room : k < length (drop from W) = simp length-drop (omega arith) in
     let e : from + k ≡ to + k + (from - to) = omega arith in
-    let read : getD (paste W to (drop from W) k) (from + k) 0 ≡ getD (drop from W) k 0 =
+    let read : getD (paste W to (drop from W) k) (from + k) 0 ≡ getD W (from + k) 0 =
     ap (λ (j : ℕ). getD (paste W to s k) j 0) e
     ∙ sym (getD-drop (to + k) (paste W to s k) (from - to) 0)
     ∙ ap (λ (l : List ℕ). getD l (from - to) 0) (drop-paste W to s k (omega arith) (omega arith))
-    ∙ getD-drop (to + k) W (from - to) 0 ∙ ap (λ (j : ℕ). getD W j 0) (sym e) ∙ sym (getD-drop from W k 0) in
-    ap (λ (x : ℕ). set (paste W to s k) (to + k) x) read ∙ paste-suc W to s k 0 (omega arith) room ∙ ap (λ (j : ℕ). paste W to s j) (sym (add-one k))
+    ∙ getD-drop (to + k) W (from - to) 0 ∙ ap (λ (j : ℕ). getD W j 0) (sym e) in
+    ap (λ (x : ℕ). set (paste W to s k) (to + k) x) read ∙ brought-more W W from to k h (omega arith)
 
 -- ---- `moved`, to a higher place: the words from k on are moved
 
@@ -71,7 +82,7 @@ from-more W from to n (suc k) h r p q =
     rw (e, a, b, m, drop-cons W (from + k) 0 inside) (step-up W (take (n - suc k) (drop (suc (from + k)) W)) (drop (to + n) W) (from + k) (to + k) (omega arith) (omega arith))
 
 pub from-all : (W : List ℕ) (from to n : ℕ) → movedFrom W from to n 0 ≡ moved W from to n
-unfolding movedFrom moved
+unfolding movedFrom brought
 from-all W from to n =
     let a : to + 0 ≡ to = omega arith in
     let b : from + 0 ≡ from = omega arith in

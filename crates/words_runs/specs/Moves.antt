@@ -5,9 +5,13 @@ use mathlib.Core.List.{List, [], _∷_, _++_}
 use lib.ListN.{take, drop, replicate}
 use lib.Dec.{eqb}
 
+-- W with the n words of U from `from` on copied to `to`
+unfoldable pub brought : List ℕ → List ℕ → ℕ → ℕ → ℕ → List ℕ
+brought U W from to n = take to W ++ take n (drop from U) ++ drop (to + n) W
+
 -- W with the n words from `from` on copied to `to`
-unfoldable pub moved : List ℕ → ℕ → ℕ → ℕ → List ℕ
-moved W from to n = take to W ++ take n (drop from W) ++ drop (to + n) W
+abbrev pub moved : List ℕ → ℕ → ℕ → ℕ → List ℕ
+moved W from to n = brought W W from to n
 
 -- W with the n words from `from` on set to 0
 unfoldable pub cleared : List ℕ → ℕ → ℕ → List ℕ

@@ -3,7 +3,7 @@ ghost use mathlib.Core.Path.{_≡_};
 ghost use Prim.Native.Nat.{_+_, _<_, _≤_};
 ghost use lib.ListN.{length, take, drop};
 ghost use Rattle.words.specs.Words.{words, Same};
-ghost use Rattle.words_runs.specs.Moves.{moved, cleared, allZero};
+ghost use Rattle.words_runs.specs.Moves.{brought, moved, cleared, allZero};
 use words::get;
 use words::put;
 
@@ -19,6 +19,21 @@ pub fn shift(pool: &mut [u8], from: usize, to: usize, n: usize)
         move_up(pool, from, to, n);
     } else {
         move_down(pool, from, to, n);
+    }
+}
+
+// Copies `n` words of another pool, from its word `from` on, to the words from `to` on.
+pub fn bring(pool: &mut [u8], source: &[u8], from: usize, to: usize, n: usize)
+    requires source { ⌜ from + n ≤ length (words (now source)) ⌝ }
+    requires target { ⌜ to + n ≤ length (words (now pool)) ⌝ }
+    ensures words { λ _. ⌜ words (now (pool .exit)) ≡ brought (words (now (source .entry))) (words (now (pool .entry))) from to n ⌝ }
+    ensures same { λ _. ⌜ Same (now (pool .entry)) (now (pool .exit)) ⌝ }
+{
+    let mut k = 0;
+    while k < n {
+        let w = get(source, from + k);
+        put(pool, to + k, w);
+        k += 1;
     }
 }
 

@@ -1,11 +1,14 @@
 //! Writes calls (at least so many) with their answers, for a program that replays them: one call a line, decimal numbers, one space between.
-//! Behind them it writes the numbered cases of document 01 and the readings (oracle/src/cases.rs).
+//! Behind them it writes packings of worn pools, the numbered cases of document 01, and the readings (oracle/src/cases.rs).
 //!
 //!     sample [CALLS] [SEED]
 //!
 //! A line is: kind, how many arguments, the arguments, how many answers, the answers. A list among the arguments is its length and then
-//! its numbers. The first answer is 0 or document 01's number; behind a refusal stands nothing but, where the pool is lent for change, its
+//! its numbers. The first answer is 0 or the number of a refusal; behind a refusal stands nothing but, where a pool is lent for change, its
 //! check. The check of bytes is h = (31 h + byte) mod 1000000007 over all of them, from 0.
+//!
+//! There are two pools, each of no bytes at first. One of them is at hand, and "the pool" below is that one; an opening says how many bytes of it
+//! are lent from there on. Which of the two is at hand, kind 15 turns round.
 //!
 //! | kind | arguments | answers when done |
 //! |---|---|---|
@@ -22,6 +25,8 @@
 //! | 11 put | word, value: the pool is damaged, or written by hand | check of the pool |
 //! | 12 case | n: what follows is numbered case n | none, not even 0: it is no call |
 //! | 13 reading | n: what follows is reading n | the same |
+//! | 14 pack | none: the pool is packed into the other one | check of the other pool, where it is refused too |
+//! | 15 turn | none: the other pool is at hand from here on | none, not even 0: it is no call |
 use oracle::cases;
 use oracle::frames;
 use oracle::lines::Lines;
@@ -30,7 +35,9 @@ use oracle::script::Step;
 use oracle::stand_in::StandIn;
 use oracle::trees;
 use oracle::walk::{self, Keys, Mood};
+use oracle::worn::{Room, Target};
 use plain::pool::length;
+use plain::tree::Index;
 use plain::{Operation, Settings};
 
 fn main() {
@@ -38,6 +45,7 @@ fn main() {
     let (calls, seed) = (args.first().copied().unwrap_or(1000), args.get(1).copied().unwrap_or(1));
     let mut lines = Lines::new(&StandIn);
     sample(&mut lines, calls, &mut Random::new(seed));
+    sample_packs(&mut lines, &mut Random::new(seed));
     cases::write(&mut lines);
     for line in lines.made() {
         println!("{line}");
@@ -136,4 +144,58 @@ fn deep_pool(lines: &mut Lines, r: &mut Random) {
         let call = walk::batch(r, &st, lines.index(), &mut keys, Mood::Churn);
         lines.play(&Step::Batch(call));
     }
+}
+
+/// A worn pool packed into no bytes, and worn pools packed into others of any kind; calls on what was packed, or, for some, damage.
+fn sample_packs(lines: &mut Lines, r: &mut Random) {
+    worn_pool(lines, r);
+    lines.pack();
+    for turn in 0..24 {
+        worn_pool(lines, r);
+        pack_into(lines, r, |_| Target::new(Room::Less));
+        pack_into(lines, r, Target::random);
+        pack_into(lines, r, Target::random);
+        if turn % 6 == 5 {
+            lines.damage();
+        }
+        pack_into(lines, r, |r| Target::new(r.pick(&[Room::More, Room::Exact])));
+        lines.turn();
+        let st = lines.settings();
+        let mut keys = Keys::random(r, &st);
+        for _ in 0..8 {
+            let step = if r.one_in(3) {
+                walk::look(r, lines.index(), &mut keys)
+            } else {
+                Step::Batch(walk::batch(r, &st, lines.index(), &mut keys, Mood::Churn))
+            };
+            lines.play(&step);
+        }
+    }
+}
+
+/// A pool that is grown by batches, and then thinned.
+fn worn_pool(lines: &mut Lines, r: &mut Random) {
+    let order = r.pick(&[4, 4, 5, 6, 8, 13]);
+    let st = Settings { nodes: r.pick(&[24, 40, 60]), order, minimum: r.between(1, (order + 1) / 2) };
+    lines.open(st);
+    let mut keys = r.pick(&[Keys::Below(1000), Keys::Ascending(0), Keys::Any]);
+    for turn in 0..32 {
+        let mood = if turn < 24 { Mood::Grow } else { Mood::Clear };
+        let call = walk::batch(r, &st, lines.index(), &mut keys, mood);
+        lines.play(&Step::Batch(call));
+    }
+}
+
+/// The pool at hand packed into the other one, which is opened for it.
+fn pack_into(lines: &mut Lines, r: &mut Random, target: impl Fn(&mut Random) -> Target) {
+    let st = lines.settings();
+    let x = lines.index().cloned().unwrap_or_else(|| Index::new(st.nodes));
+    let script = target(r).script(r, &st, &x);
+    lines.turn();
+    lines.open(script.settings);
+    for step in &script.steps {
+        lines.play(step);
+    }
+    lines.turn();
+    lines.pack();
 }

@@ -13,6 +13,7 @@ mod deep;
 mod frames;
 mod looks;
 mod openings;
+mod packs;
 mod pools;
 mod sequences;
 mod small;
@@ -36,16 +37,17 @@ impl<'l> Work<'l> {
     }
 
     /// Each part with its name and the share of the time at which it ends.
-    pub fn parts() -> [(&'static str, f64, Part<'l>); 9] {
+    pub fn parts() -> [(&'static str, f64, Part<'l>); 10] {
         [
             ("settings and lengths when opening", 0.02, Work::openings),
             ("refusals in the table's order", 0.04, Work::table),
             ("sequences of short batches from a new pool", 0.15, Work::sequences),
-            ("short batches on every small tree", 0.45, Work::small_trees),
-            ("lookups of every small tree", 0.55, Work::small_looks),
-            ("full ways down, of every depth", 0.62, Work::deep),
-            ("random calls on random pools", 0.85, Work::random_pools),
-            ("damaged pools", 0.95, Work::damaged_pools),
+            ("short batches on every small tree", 0.42, Work::small_trees),
+            ("lookups of every small tree", 0.52, Work::small_looks),
+            ("full ways down, of every depth", 0.59, Work::deep),
+            ("random calls on random pools", 0.78, Work::random_pools),
+            ("packing small trees and worn pools", 0.9, Work::packs),
+            ("damaged pools", 0.96, Work::damaged_pools),
             ("frames", 1.0, Work::frames),
         ]
     }

@@ -65,7 +65,7 @@ impl Frame {
     /// Reads a line of hexadecimal without a line feed.
     ///
     /// # Errors
-    /// [`Refusal::LineEmpty`] to [`Refusal::UnknownHeader`].
+    /// [`Refusal::LineEmpty`] to [`Refusal::KeysNotAscending`], as they are listed.
     pub fn read(line: &[u8]) -> Result<Frame, Refusal> {
         let (mut head, mut keys, mut wide) = ([0; 2], [0; FRAME_ENTRIES], [0; FRAME_ENTRIES]);
         let (mut narrow, mut live, mut dead) = ([0; FRAME_ENTRIES], [0; FRAME_ENTRIES], [0; FRAME_ENTRIES]);

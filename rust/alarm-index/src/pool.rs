@@ -158,6 +158,16 @@ impl<'a> View<'a> {
         done(number, Totals { live, dead, size })
     }
 
+    /// Copies the tree, packed, into a new pool of the same order and minimum: each level has as few nodes as its entries need, every one of
+    /// them full but the last, and the nodes stand in the order of the preorder walk. A pool that was emptied again is new.
+    ///
+    /// # Errors
+    /// [`Refusal::NotSound`] of either pool, [`Refusal::SettingsDiffer`], [`Refusal::TargetNotNew`], [`Refusal::TooFewNodes`] where the target has
+    /// fewer nodes than the packed tree needs; never where it has as many as this pool.
+    pub fn pack_into(self, target: &mut Pool<'_>) -> Result<(), Refusal> {
+        done(raw::pack(self.bytes, target.bytes), ())
+    }
+
     /// Lists one entry for each key that is present, dead entries too, equal keys each time. The keys ascend. The output takes
     /// [`ENTRY_LEN`](crate::ENTRY_LEN) bytes an entry, and is not touched behind the last one.
     ///

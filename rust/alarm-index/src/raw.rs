@@ -9,6 +9,7 @@ mod c {
         pub fn alarm_pool_len(nodes: u64, order: u64, minimum: u64) -> u64;
         pub fn alarm_open(pool: *mut u8, pool_n: usize, nodes: u64, order: u64, minimum: u64) -> u32;
         pub fn alarm_totals(pool: *const u8, pool_n: usize, totals: *mut [u64; 3]) -> u32;
+        pub fn alarm_pack(source: *const u8, source_n: usize, target: *mut u8, target_n: usize) -> u32;
         pub fn alarm_set(
             pool: *mut u8,
             pool_n: usize,
@@ -120,6 +121,13 @@ pub fn open(pool: &mut [u8], nodes: u64, order: u64, minimum: u64) -> u32 {
 #[must_use]
 pub fn totals(pool: &[u8], totals: &mut [u64; 3]) -> u32 {
     unsafe { c::alarm_totals(pool.as_ptr(), pool.len(), totals) }
+}
+
+/// Copies the tree of the source into the target, a new pool of its order and minimum: each level as few nodes as can be, every one of them
+/// full but the last. Refused as 2, 17, 18, 7.
+#[must_use]
+pub fn pack(source: &[u8], target: &mut [u8]) -> u32 {
+    unsafe { c::alarm_pack(source.as_ptr(), source.len(), target.as_mut_ptr(), target.len()) }
 }
 
 /// Sets every key to one reference. Counts, of each batch: keys that added, replaced, removed, did nothing. Refused as 2, 3, 5, 6, 7.

@@ -103,6 +103,69 @@ fn batches_are_refused() {
 }
 
 #[test]
+fn packs() {
+    let source = p();
+    let mut bytes = [170; LEN];
+    let mut target = Pool::open(&mut bytes, DESK).expect("opened");
+    assert_eq!(View::new(&source).pack_into(&mut target), Ok(()));
+    assert_eq!(View::new(&source).pack_into(&mut target), Err(Refusal::TargetNotNew));
+    assert_eq!(leaves(&bytes), [vec![1, 2, 3, 4], vec![5]]);
+    assert_eq!(source, p());
+
+    let packed = bytes;
+    let mut again = Pool::open(&mut bytes, DESK).expect("opened");
+    assert_eq!(View::new(&packed).pack_into(&mut again), Ok(()));
+    assert_eq!(bytes, packed);
+
+    // 5 set again leaves its leaf below the minimum, and the two are evened out
+    assert_eq!(Pool::new(&mut bytes).set(&[5], entry(5).reference()), Ok(counts(0, 1, 0, 0)));
+    assert_eq!(leaves(&bytes), [vec![1, 2, 3], vec![4, 5]]);
+
+    // an emptied pool is new
+    Pool::new(&mut bytes).remove(&[1, 2, 3]).expect("done");
+    Pool::new(&mut bytes).remove(&[4, 5]).expect("done");
+    assert_eq!(View::new(&source).pack_into(&mut Pool::new(&mut bytes)), Ok(()));
+    assert_eq!(bytes, packed);
+}
+
+/// The keys of each leaf.
+fn leaves(bytes: &[u8]) -> Vec<Vec<u64>> {
+    let mut line = [0; LINE_LEN];
+    let frames = (0..).map_while(|i| View::new(bytes).frame(i, &mut line).ok().map(|l| Frame::read(l).expect("read")));
+    frames.filter_map(|f| if let Frame::Leaf(rows) = f { Some(rows.iter().map(|e| e.key).collect()) } else { None }).collect()
+}
+
+#[test]
+fn packing_is_refused() {
+    let mut source = [0; pool_len(32, 4)];
+    let mut pool = Pool::open(&mut source, Settings { nodes: 32, ..DESK }).expect("opened");
+    (1..=21).for_each(|k| assert_eq!(pool.set(&[k], entry(k).reference()), Ok(counts(1, 0, 0, 0))));
+    let mut bytes = [0; pool_len(9, 5)];
+    let mut refused = |settings: Settings, holds: bool| {
+        let bytes = &mut bytes[..settings.pool_len().expect("in limits")];
+        let mut target = Pool::open(bytes, settings).expect("opened");
+        if holds {
+            target.set(&[7], Reference::default()).expect("done");
+        }
+        let before = bytes.to_vec();
+        let refusal = View::new(&source).pack_into(&mut Pool::new(bytes)).err();
+        assert_eq!(refusal.is_some(), bytes == before);
+        refusal
+    };
+    let small = Settings { nodes: 8, ..DESK };
+    assert_eq!(refused(Settings { order: 5, ..small }, true), Some(Refusal::SettingsDiffer));
+    assert_eq!(refused(Settings { minimum: 1, ..small }, true), Some(Refusal::SettingsDiffer));
+    assert_eq!(refused(small, true), Some(Refusal::TargetNotNew));
+    assert_eq!(refused(small, false), Some(Refusal::TooFewNodes));
+    assert_eq!(refused(Settings { nodes: 9, ..DESK }, false), None);
+
+    let not_new = &mut p();
+    assert_eq!(View::new(&[]).pack_into(&mut Pool::new(not_new)), Err(Refusal::NotSound));
+    assert_eq!(View::new(&source).pack_into(&mut Pool::new(&mut not_new[1..])), Err(Refusal::NotSound));
+    assert_eq!(*not_new, p());
+}
+
+#[test]
 fn totals_and_dead_entries() {
     let mut bytes = p();
     assert_eq!(View::new(&bytes).totals(), Ok(Totals { live: 5, dead: 0, size: 80 }));
@@ -198,7 +261,7 @@ fn numbers() {
     for n in 1..=20 {
         let refusal = Refusal::from_number(n).expect("a refusal");
         assert_eq!((refusal.number(), u32::from(refusal)), (n, n));
-        assert_eq!(matches!(refusal, Refusal::Other(_)), n > 16);
+        assert_eq!(matches!(refusal, Refusal::Other(_)), n > 18);
         assert!(refusal.to_string().starts_with(&format!("refused as {n}: ")));
     }
     let error: &dyn std::error::Error = &Refusal::TooDeep;
@@ -214,4 +277,5 @@ fn the_raw_calls() {
     assert_eq!((raw::get(&bytes, &[2, 1], &mut [], &mut told), told), (5, [7; 2]));
     assert_eq!((raw::frame(&bytes, 3, &mut [], &mut len), len), (14, 7));
     assert_eq!((raw::totals(&bytes, &mut totals), totals), (0, [5, 0, 80]));
+    assert_eq!(raw::pack(&bytes, &mut p()), 18);
 }

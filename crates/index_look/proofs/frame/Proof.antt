@@ -1,7 +1,8 @@
 -- `frame` meets its contract: the survey tells whether the pool is sound; where it is not the call refuses (`frame-unsound`), and where it is the line
 -- is what the model's node writes (`frame-told`). Assumes nothing.
 use borrow.Author.Needs.{needs}
-use Rattle.index_look.proofs.Keeps.{unsound, sound, in-pool, frame-unsound, frame-told}
+use Rattle.survey.proofs.Founds.{unsound, sound, in-pool}
+use Rattle.index_look.proofs.Keeps.{frame-unsound, frame-told}
 use Rattle.index_look.proofs.frame.Statement.{statement}
 use Rattle.index_look.proofs.frame.Tie as tie
 

@@ -2,7 +2,8 @@
 -- descend (`get-descends`); else what was written is the model's listing (`get-told`). Assumes nothing.
 use mathlib.Core.Path.{sym, _∙_}
 use borrow.Author.Needs.{needs}
-use Rattle.index_look.proofs.Keeps.{unsound, sound, in-pool, get-unsound, get-descends, get-told}
+use Rattle.survey.proofs.Founds.{unsound, sound, in-pool}
+use Rattle.index_look.proofs.Keeps.{get-unsound, get-descends, get-told}
 use Rattle.index_look.proofs.get.Statement.{statement}
 use Rattle.index_look.proofs.get.Tie as tie
 

@@ -2,7 +2,8 @@
 -- written, and the nodes that were opened, are the model's (`scan-told`). Assumes nothing.
 use borrow.Author.Needs.{needs}
 use Rattle.model.specs.Look.{requestFor}
-use Rattle.index_look.proofs.Keeps.{unsound, sound, in-pool, scan-unsound, scan-told}
+use Rattle.survey.proofs.Founds.{unsound, sound, in-pool}
+use Rattle.index_look.proofs.Keeps.{scan-unsound, scan-told}
 use Rattle.index_look.proofs.scan.Statement.{statement}
 use Rattle.index_look.proofs.scan.Tie as tie
 

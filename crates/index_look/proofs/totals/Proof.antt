@@ -1,7 +1,8 @@
 -- `totals` meets its contract: the survey tells whether the pool is sound; where it is not the call refuses (`totals-unsound`), and where it is the
 -- totals are the model's (`totals-told`). Assumes nothing.
 use borrow.Author.Needs.{needs}
-use Rattle.index_look.proofs.Keeps.{unsound, sound, in-pool, totals-unsound, totals-told}
+use Rattle.survey.proofs.Founds.{unsound, sound, in-pool}
+use Rattle.index_look.proofs.Keeps.{totals-unsound, totals-told}
 use Rattle.index_look.proofs.totals.Statement.{statement}
 use Rattle.index_look.proofs.totals.Tie as tie
 

@@ -5,10 +5,10 @@ use Rattle.trial_replay.proofs.feed.Statement.{statement}
 use Rattle.trial_replay.proofs.feed.Tie as tie
 
 abbrev Inv-loop : tie.InvT-loop
-Inv-loop pool₀ numbers₀ tally₀ text n s₀ j₀ pool numbers tally s j = Unit {0}
+Inv-loop first₀ second₀ numbers₀ tally₀ text n s₀ j₀ first second numbers tally s j = Unit {0}
 
 abbrev μ-loop : tie.MeasureT-loop
-μ-loop pool₀ numbers₀ tally₀ text n s₀ j₀ pool numbers tally s j = n - j
+μ-loop first₀ second₀ numbers₀ tally₀ text n s₀ j₀ first second numbers tally s j = n - j
 
 pub feed-spec : {M : Type 1} → statement M
 feed-spec =

@@ -4,10 +4,10 @@ use Rattle.trial_replay.proofs.main.Statement.{statement}
 use Rattle.trial_replay.proofs.main.Tie as tie
 
 abbrev Inv-loop : tie.InvT-loop
-Inv-loop pool₀ numbers₀ tally₀ s₀ turns₀ pool numbers tally s turns = Unit {0}
+Inv-loop first₀ second₀ numbers₀ tally₀ s₀ turns₀ first second numbers tally s turns = Unit {0}
 
 abbrev μ-loop : tie.MeasureT-loop
-μ-loop pool₀ numbers₀ tally₀ s₀ turns₀ pool numbers tally s turns = turns
+μ-loop first₀ second₀ numbers₀ tally₀ s₀ turns₀ first second numbers tally s turns = turns
 
 pub main-spec : {M : Type 1} → statement M
 main-spec =
@@ -15,6 +15,7 @@ main-spec =
     (tie.spec
     Inv-loop
     μ-loop
+    (λ c κs. search needs)
     (λ c κs. search needs)
     (λ c κs. search needs)
     (λ c. search needs)

@@ -7,7 +7,7 @@ use lib.ListN.{getD, set}
 use Rattle.words.specs.Words.{words, Same}
 use Rattle.words_runs.specs.Moves.{moved}
 use Rattle.words.proofs.Laws.{same-refl, same-then}
-use Rattle.words_runs.proofs.Runs.{moved-none, moved-more}
+use Rattle.words_runs.proofs.Runs.{brought-none, moved-more}
 use Rattle.words_runs.proofs.move_down.Statement.{statement}
 use Rattle.words_runs.proofs.move_down.Tie as tie
 
@@ -20,7 +20,7 @@ abbrev μ-loop : tie.MeasureT-loop
 loop-holds : tie.Need-loop-holds Inv-loop μ-loop
 loop-holds c =
     let a = c .before .args in
-    (omega arith, (moved-none (words (a .pool .now)) (a .from) (a .to), same-refl (a .pool .now)))
+    (omega arith, (brought-none (words (a .pool .now)) (words (a .pool .now)) (a .from) (a .to), same-refl (a .pool .now)))
 
 loop-again : tie.Need-loop-again Inv-loop μ-loop
 loop-again c =

@@ -10,7 +10,7 @@ use std::time::Duration;
 
 /// Where the nodes of a full pool lie.
 #[derive(Clone, Copy)]
-enum Layout {
+pub enum Layout {
     /// One behind another, as a walk over the tree comes to them.
     InOrder,
     /// Anywhere, as after many changes.
@@ -63,7 +63,7 @@ fn summed(pool: &[u8]) -> u64 {
 
 /// A tree of full leaves and of interiors as full as they can be alike, as large as fits: at most a few slots stay unused. One entry in
 /// four is dead.
-fn full(st: &Settings, layout: Layout) -> Index {
+pub fn full(st: &Settings, layout: Layout) -> Index {
     let mut leaves = 1;
     while nodes_over(leaves + 1, st.order) <= st.nodes {
         leaves += 1;

@@ -1,12 +1,13 @@
-//! Times, medians of many, as two markdown tables: the soundness test on full pools beside a sum of their words (`full`); and the calls'
-//! own times beside the third variant of the published module and BTreeMap (`calls`).
+//! Times, medians of many, as three markdown tables: the soundness test on full pools beside a sum of their words (`full`); the calls'
+//! own times beside the third variant of the published module and BTreeMap (`calls`); and packing beside a BTreeMap built anew (`packs`).
 //!
-//!     speed [MILLISECONDS] [--stand-in]
+//!     speed [MILLISECONDS] [TABLE ..] [--stand-in]
 //!
-//! The milliseconds, 300 where none are given, are the time for each figure.
+//! The milliseconds, 300 where none are given, are the time for each figure. The tables are those named, or all.
 mod calls;
 mod clock;
 mod full;
+mod packs;
 
 use oracle::library;
 use std::time::Duration;
@@ -16,13 +17,25 @@ fn main() {
     let time = Duration::from_millis(args.iter().find_map(|a| a.parse().ok()).unwrap_or(300));
     let lib = library(args.iter().any(|a| a == "--stand-in"));
     println!("Timed: {}. Medians.", lib.name());
-    println!("\nThe soundness test on full pools, beside the sum of their bytes as 64-bit words.\n");
-    full::table(&*lib, time);
-    println!(
-        "\nOwn times: a batch has {} new keys, set and then removed; a get {} held keys; a scan lists {}.\n",
-        calls::KEYS,
-        calls::LISTED,
-        calls::LISTED
-    );
-    calls::table(&*lib, time);
+    let tables = ["full", "calls", "packs"].map(|t| args.iter().any(|a| a == t));
+    let all = tables == [false; 3];
+    if all || tables[0] {
+        println!("\nThe soundness test on full pools, beside the sum of their bytes as 64-bit words.\n");
+        full::table(&*lib, time);
+    }
+    if all || tables[1] {
+        println!(
+            "\nOwn times: a batch has {} new keys, set and then removed; a get {} held keys; a scan lists {}.\n",
+            calls::KEYS,
+            calls::LISTED,
+            calls::LISTED
+        );
+        calls::table(&*lib, time);
+    }
+    if all || tables[2] {
+        println!(
+            "\nPacking a pool into another of as many nodes; a BTreeMap of the same entries walked and built anew; the target's bytes copied.\n"
+        );
+        packs::table(&*lib, time);
+    }
 }

@@ -1,0 +1,2 @@
+-- `Contracts` has what the function asks.
+pub mod Contracts
