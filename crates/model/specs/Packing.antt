@@ -1,4 +1,4 @@
--- What document 02 demands of packing, said of the definitions. proofs/Packing.antt proves each statement here. Assumes nothing.
+-- What document 02 demands of packing, said of the definitions. proofs/Packing.antt and proofs/Packs.antt prove the statements here. Assumes nothing.
 use mathlib.Core.Path.{_≡_}
 use mathlib.Core.Bool.{true, cond}
 use mathlib.Core.List.{List, [], _∷_, map}
