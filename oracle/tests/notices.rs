@@ -12,57 +12,55 @@ use plain::tree::{Index, Items, Node};
 use plain::{Call, Entry, Operation, Request, Settings};
 use std::time::{Duration, Instant};
 
-#[derive(Clone, Copy, Debug, PartialEq)]
-enum Fault {
-    None,
-    RefusesAll,
-    StoresNothing,
-    CountsReplacedAsAdded,
-    TellsCountsWhenRefused,
-    ChangesPoolWhenRefused,
-    TakesHighestSlot,
-    LeavesAFreedWord,
-    ForgetsSix,
-    TouchesBehindEntries,
-    MoreWhenJustFull,
-    OpensOneTooMany,
-    ListsTheDead,
-    HidesTheDeadFromGet,
-    TakesAWordBehindTheRows,
-    TestsFiveFirst,
-    LeavesOldEntriesInAFrame,
-    TouchesBehindALine,
-    ReadsCapitals,
-    WritesDisorder,
-    OpensWithAnyMinimum,
-    LeavesOfOrderLessOne,
-    ShortLeafFirst,
-    NumbersLevelByLevel,
-    PacksTheLiveAlone,
-    ComparesOrdersAlone,
-    AsksIfNewFirst,
-    AsksForRoomFirst,
-    AsksForANodeMore,
-    DeadEntriesAreNew,
-    TestsTheSourceAlone,
-    WritesTheTargetWhenRefused,
+/// Each fault is named once, so each is tried; those of packing show in the part of packing.
+macro_rules! faults {
+    ($($other:ident)*, of packing: $($of_packing:ident)*) => {
+        #[derive(Clone, Copy, Debug, PartialEq)]
+        enum Fault {
+            None,
+            $($other,)*
+            $($of_packing,)*
+        }
+        use Fault::*;
+        const OTHERS: &[Fault] = &[$($other),*];
+        const OF_PACKING: &[Fault] = &[$($of_packing),*];
+    };
 }
-use Fault::*;
 
-/// They show in the part of packing.
-const OF_PACKING: [Fault; 11] = [
-    LeavesOfOrderLessOne,
-    ShortLeafFirst,
-    NumbersLevelByLevel,
-    PacksTheLiveAlone,
-    ComparesOrdersAlone,
-    AsksIfNewFirst,
-    AsksForRoomFirst,
-    AsksForANodeMore,
-    DeadEntriesAreNew,
-    TestsTheSourceAlone,
-    WritesTheTargetWhenRefused,
-];
+faults! {
+    RefusesAll
+    StoresNothing
+    CountsReplacedAsAdded
+    TellsCountsWhenRefused
+    ChangesPoolWhenRefused
+    TakesHighestSlot
+    LeavesAFreedWord
+    ForgetsSix
+    TouchesBehindEntries
+    MoreWhenJustFull
+    OpensOneTooMany
+    ListsTheDead
+    HidesTheDeadFromGet
+    TakesAWordBehindTheRows
+    TestsFiveFirst
+    LeavesOldEntriesInAFrame
+    TouchesBehindALine
+    ReadsCapitals
+    WritesDisorder
+    OpensWithAnyMinimum,
+    of packing:
+    LeavesOfOrderLessOne
+    ShortLeafFirst
+    NumbersLevelByLevel
+    PacksTheLiveAlone
+    ComparesOrdersAlone
+    AsksIfNewFirst
+    AsksForRoomFirst
+    AsksForANodeMore
+    DeadEntriesAreNew
+    TestsTheSourceAlone
+    WritesTheTargetWhenRefused
+}
 
 struct Wrong(Fault);
 
@@ -281,29 +279,7 @@ fn noticed(f: Fault) -> Option<String> {
 
 #[test]
 fn each_fault_is_noticed() {
-    let faults = [
-        RefusesAll,
-        StoresNothing,
-        CountsReplacedAsAdded,
-        TellsCountsWhenRefused,
-        ChangesPoolWhenRefused,
-        TakesHighestSlot,
-        LeavesAFreedWord,
-        ForgetsSix,
-        TouchesBehindEntries,
-        MoreWhenJustFull,
-        OpensOneTooMany,
-        ListsTheDead,
-        HidesTheDeadFromGet,
-        TakesAWordBehindTheRows,
-        TestsFiveFirst,
-        LeavesOldEntriesInAFrame,
-        TouchesBehindALine,
-        ReadsCapitals,
-        WritesDisorder,
-        OpensWithAnyMinimum,
-    ];
-    for f in faults.into_iter().chain(OF_PACKING) {
+    for &f in OTHERS.iter().chain(OF_PACKING) {
         let found = noticed(f);
         println!("{f:?}: {}", found.as_deref().unwrap_or("NOT NOTICED"));
         assert!(found.is_some(), "{f:?} is not noticed");
