@@ -1,8 +1,7 @@
 -- The laws of specs/: which rows can be searched, how many keys are below a key, and what a search finds there. Assumes nothing.
 use mathlib.Core.Path.{_≡_, ap}
-use Prim.Native.Nat.{ℕ, zero, suc, _+_, _≤_, _<_}
+use Prim.Native.Nat.{ℕ, zero, suc, _≤_, _<_}
 use native.Mathlib.Nat.{not-suc-le-zero, le-of-suc-le-suc}
-use native.Mathlib.Decide.{decLt}
 use native.Mathlib.Omega.{arith}
 use mathlib.Core.List.{List, [], _∷_, map}
 use lib.ListN.{length}
@@ -28,7 +27,7 @@ ordered-rows (r ∷ l) (cons o s) (suc i) (suc j) h g = ordered-rows l s i j (le
 -- ---- how many keys are below k
 
 -- what is before row i is below k, and row i is not: i is the number
-pub below-is : (k : ℕ) (l : List Row) (i : ℕ) → i ≤ length l → ((j : ℕ) → j < i → keyAt l j < k) → (i < length l → k ≤ keyAt l i) → below k l ≡ i
+below-is : (k : ℕ) (l : List Row) (i : ℕ) → i ≤ length l → ((j : ℕ) → j < i → keyAt l j < k) → (i < length l → k ≤ keyAt l i) → below k l ≡ i
 unfolding below pick
 below-is k [] i h b a = omega arith
 below-is k (r ∷ l) zero h b a = rw (le-ltb (r .key) k (a (omega arith)))
@@ -36,36 +35,17 @@ below-is k (r ∷ l) (suc i) h b a =
     rw (lt-ltb (r .key) k (b zero (omega arith)))
     (ap suc (below-is k l i (le-of-suc-le-suc h) (λ j g. b (suc j) (omega arith)) (λ g. a (omega arith))))
 
-up-to : (k : ℕ) (l : List Row) (m : ℕ) → Ascending l → m < length l → keyAt l m < k → (j : ℕ) → j < m + 1 → Dec (j < m) → keyAt l j < k
-up-to k l m asc h g j hj (yes q) = omega (arith, asc j m q h)
-up-to k l m asc h g j hj (no q) =
-    let e : j ≡ m = omega arith in
-    rw e g
+-- ---- the answers of a walk that has found each key before row i below k
 
--- row m is below k, and so is each before it
-pub all-below : (k : ℕ) (l : List Row) (m : ℕ) → Ascending l → m < length l → keyAt l m < k → (j : ℕ) → j < m + 1 → keyAt l j < k
-all-below k l m asc h g j hj = up-to k l m asc h g j hj (decLt j m)
+module _ (k : ℕ) (l : List Row) (i : ℕ) (passed : (j : ℕ) → j < i → keyAt l j < k) where
+  pub found-at : i < length l → keyAt l i ≡ k → At i ≡ findRow k l
+  unfolding findRow pick
+  found-at h e = rw (below-is k l i (omega arith) passed (λ _. omega arith), lt-ltb i (length l) h, eq-eqb (keyAt l i) k e)
 
-from-on : (k : ℕ) (l : List Row) (m : ℕ) → Ascending l → k ≤ keyAt l m → (j : ℕ) → m ≤ j → j < length l → Dec (m < j) → k ≤ keyAt l j
-from-on k l m asc g j hm hj (yes q) = omega (arith, asc m j q hj)
-from-on k l m asc g j hm hj (no q) =
-    let e : j ≡ m = omega arith in
-    rw e g
+  pub found-not : i < length l → k < keyAt l i → Before i ≡ findRow k l
+  unfolding findRow pick
+  found-not h g = rw (below-is k l i (omega arith) passed (λ _. omega arith), lt-ltb i (length l) h, ne-eqb (keyAt l i) k (λ e. absurd (omega arith)))
 
--- row m is not, and so is none after it
-pub none-below : (k : ℕ) (l : List Row) (m : ℕ) → Ascending l → k ≤ keyAt l m → (j : ℕ) → m ≤ j → j < length l → k ≤ keyAt l j
-none-below k l m asc g j hm hj = from-on k l m asc g j hm hj (decLt m j)
-
--- ---- the answers of a search
-
-pub found-at : (k : ℕ) (l : List Row) (i : ℕ) → below k l ≡ i → i < length l → keyAt l i ≡ k → At i ≡ findRow k l
-unfolding findRow pick
-found-at k l i e h g = rw (e, lt-ltb i (length l) h, eq-eqb (keyAt l i) k g)
-
-pub found-not : (k : ℕ) (l : List Row) (i : ℕ) → below k l ≡ i → i < length l → (keyAt l i ≡ k → ⊥) → Before i ≡ findRow k l
-unfolding findRow pick
-found-not k l i e h g = rw (e, lt-ltb i (length l) h, ne-eqb (keyAt l i) k g)
-
-pub found-end : (k : ℕ) (l : List Row) (i : ℕ) → below k l ≡ i → length l ≤ i → Before i ≡ findRow k l
-unfolding findRow pick
-found-end k l i e h = rw (e, le-ltb i (length l) h)
+  pub found-end : i ≡ length l → Before i ≡ findRow k l
+  unfolding findRow pick
+  found-end e = rw (below-is k l i (omega arith) passed (λ h. absurd (omega arith)), le-ltb i (length l) (omega arith))

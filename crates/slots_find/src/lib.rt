@@ -18,28 +18,24 @@ pub enum Found {
     Before(usize),
 }
 
-// Looks for `key` in node `s`, whose keys ascend, by halving.
+// Looks for `key` in node `s`, whose keys ascend: row by row from the front, up to the first key that is not below it.
 pub fn search(pool: &[u8], st: Settings, s: usize, key: u64) -> Found
     requires { ⌜ ToSearch st (words (now pool)) s ⌝ }
     ensures { λ r. ⌜ Sought (rowsAt st (words (now (pool .entry))) s) key r ⌝ }
 {
     let n = count(pool, st, s);
-    let mut low = 0;
-    let mut high = n;
-    while low < high {
-        let mid = low + (high - low) / 2;
-        if key_at(pool, st, s, mid) < key {
-            low = mid + 1;
-        } else {
-            high = mid;
+    let mut i = 0;
+    while i < n {
+        let here = key_at(pool, st, s, i);
+        if key <= here {
+            if key == here {
+                return Found::At(i);
+            }
+            return Found::Before(i);
         }
+        i += 1;
     }
-    if low < n {
-        if key_at(pool, st, s, low) == key {
-            return Found::At(low);
-        }
-    }
-    Found::Before(low)
+    Found::Before(n)
 }
 
 // The key of row `i` of node `s`.
