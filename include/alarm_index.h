@@ -24,8 +24,8 @@
 #include <stdint.h>
 
 /* The version of these declarations: the first number rises where a call or a name changes its meaning, the second where one is added. */
-#define ALARM_INDEX_MAJOR 1
-#define ALARM_INDEX_MINOR 1
+#define ALARM_INDEX_MAJOR 2
+#define ALARM_INDEX_MINOR 0
 
 /* The layout of a pool (docs/POOL.md). A pool of another layout is refused as ALARM_NOT_SOUND. */
 #define ALARM_LAYOUT 1
@@ -93,7 +93,7 @@ uint64_t alarm_pool_len(uint64_t nodes, uint64_t order, uint64_t minimum);
 /* Makes the pool one empty leaf, whatever it held. Refused as 1. */
 uint32_t alarm_open(uint8_t *pool, size_t pool_n, uint64_t nodes, uint64_t order, uint64_t minimum);
 
-/* totals: live entries, dead entries, the sum of the sizes of all. Refused as 2. */
+/* totals: live entries, dead entries, the sum of the sizes of the live ones. Refused as 2. */
 uint32_t alarm_totals(const uint8_t *pool, size_t pool_n, uint64_t totals[3]);
 
 /* Copies the tree of the source into the target, a new pool of the same order and minimum: each level has as few nodes as its entries need,

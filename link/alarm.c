@@ -82,6 +82,21 @@ static void packing(void) {
     entries(out, told[ALARM_WRITTEN]);
 }
 
+/* an alarm that is cleared takes no space, whatever its size; a pool whose sum still counts it, as sums did before version 2, is not sound */
+static void clearing(void) {
+    static uint8_t few[ALARM_POOL_LEN(16, 4)];
+    uint64_t counts[4], totals[3], told[3];
+    alarm_open(few, sizeof few, 16, 4, 2);
+    for (uint64_t k = 1; k <= 5; k++)
+        alarm_set(few, sizeof few, &k, 1, 256 + k, 16, counts);
+    const uint64_t four = 4;
+    numbers("cleared", alarm_set(few, sizeof few, &four, 1, 0, 100, counts), counts, 4);
+    numbers("totals", alarm_totals(few, sizeof few, totals), totals, 3);
+    numbers("scan", alarm_scan(few, sizeof few, false, false, 0, false, false, 0, false, 50, NULL, 0, told), told, 3);
+    few[8 * 11] = 116; /* the sum of the second leaf, which was 16 */
+    numbers("totals", alarm_totals(few, sizeof few, totals), totals, 3);
+}
+
 /* a slice of no elements may be NULL, in every call that takes one */
 static void without_elements(void) {
     uint64_t counts[4], told[3], head[2], wide[32] = {0}, keys[32] = {0}, len = 0, totals[3] = {7, 7, 7};
@@ -166,6 +181,7 @@ int main(void) {
     numbers("compare", alarm_compare(pool, n, keys + 4, 1, true, 261, 16, false, 0, 0, counts), counts, 4);
     numbers("remove", alarm_remove(pool, n, keys + 4, 1, counts), counts, 4);
     numbers("totals", alarm_totals(pool, n, totals), totals, 3);
+    clearing();
     packing();
     without_elements();
     return 0;

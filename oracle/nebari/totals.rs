@@ -1,4 +1,5 @@
-//! Document 01's reference (the module's `Index`) and totals (its `Reducer`), with their bytes.
+//! Document 01's reference (the module's `Index`) and totals (its `Reducer`), with their bytes. Since A3 of document 02 a size sum counts live entries
+//! alone.
 use super::btree_entry::Reducer;
 use super::{key_entry::ValueIndex, serialization::BinarySerialization, PagedWriter};
 use crate::{ArcBytes, Error};
@@ -65,9 +66,9 @@ impl Reducer<Index> for Stats {
             if i.place == 0 {
                 s.dead += 1
             } else {
-                s.live += 1
+                s.live += 1;
+                s.size += u64::from(i.size);
             }
-            s.size += u64::from(i.size);
         }
         s
     }

@@ -2,6 +2,7 @@
 //! docs/DECISIONS.md: as lines that crates/trial_replay replays. What is wanted is written out here, and every answer is held to it as its line
 //! is made.
 use crate::lines::Lines;
+use crate::script::Step;
 use crate::wanted::{down, entry, grove, set, two_groves, up, way_down, DESK};
 use plain::tree::{Index, Node};
 use plain::Bound::{Excluded, Included, Unbounded};
@@ -10,7 +11,7 @@ use plain::{Action, Call, Entry, Expectation, Request, Settings};
 pub const CASES: [fn(&mut Lines); 14] =
     [case_1, case_2, case_3, case_4, case_5, case_6, case_7, case_8, case_9, case_10, case_11, case_12, case_13, case_14];
 
-pub const READINGS: [fn(&mut Lines); 27] = [
+pub const READINGS: [fn(&mut Lines); 29] = [
     slots_of_p,
     compare_removes,
     dead_entry,
@@ -38,6 +39,8 @@ pub const READINGS: [fn(&mut Lines); 27] = [
     worn_is_packed,
     unsound_first,
     dead_ones_packed,
+    dead_sizes_are_free,
+    old_sums,
 ];
 
 pub fn write(lines: &mut Lines) {
@@ -194,13 +197,18 @@ fn compare_removes(l: &mut Lines) {
     l.refused(&absent, 7);
 }
 
-/// 3. A dead entry is no more listed by a scan, still found by a get, and counted as dead.
+/// 3. A dead entry is no more listed by a scan, still found by a get, and counted as dead. Its size is in no sum, nor in an interior's frame.
 fn dead_entry(l: &mut Lines) {
     l.p();
     l.done(&Call::set(&[2], 0, 5), [0, 1, 0, 0]);
     l.lists(up(Unbounded, Included(3)), 9, &[1, 3], 3, false);
     l.gets(&[2], &[Entry { key: 2, place: 0, size: 5 }]);
-    l.totals_are(4, 1, 69);
+    l.totals_are(4, 1, 64);
+    l.frames_are(&[
+        "000000000000000003000000010000000200000001000000000000002000000000000000050000000200000002000000000000000000000020",
+        "01000000000000000100000000000001010000001000000000000000020000000000000000000000050000000000000003000000000000010300000010",
+        FRAMES_OF_P[2],
+    ]);
 }
 
 /// 4. A start above the end: nothing is listed, and nodes are opened by the rule.
@@ -494,7 +502,44 @@ fn dead_ones_packed(l: &mut Lines) {
     l.beside(DESK);
     l.packs();
     l.turn();
-    l.totals_are(4, 1, 69);
+    l.totals_are(4, 1, 64);
     l.gets(&[2, 3], &[Entry { key: 2, place: 0, size: 5 }, entry(3)]);
     l.lists(up(Unbounded, Included(4)), 9, &[1, 3, 4], 3, false);
+}
+
+/// 28. A leaf of 100 dead beside 16 is no more opened for 50, where document 01's sum had it opened. One whose entries are all dead has sum 0: it is
+/// opened by SizeAtLeast 0, which is All.
+fn dead_sizes_are_free(l: &mut Lines) {
+    l.p();
+    l.done(&Call::set(&[4], 0, 100), [0, 1, 0, 0]);
+    l.totals_are(4, 1, 64);
+    l.lists(Request { least: 50, ..up(Unbounded, Unbounded) }, 9, &[], 1, false);
+    l.lists(Request { least: 50, ..down(Unbounded, Unbounded) }, 9, &[], 1, false);
+
+    l.done(&Call::set(&[5], 0, 100), [0, 1, 0, 0]);
+    l.totals_are(3, 2, 48);
+    l.lists(up(Unbounded, Unbounded), 9, &[1, 2, 3], 3, false);
+    l.lists(Request { least: 1, ..up(Unbounded, Unbounded) }, 9, &[1, 2, 3], 2, false);
+}
+
+/// 29. A pool whose sum counts a dead entry, as all did before, is refused as 2 by every call, and with the new sum it is none such. One in which the
+/// dead entry has size 0, and a lone leaf, which stores no sum, have the bytes that they had.
+fn old_sums(l: &mut Lines) {
+    l.p();
+    l.done(&Call::set(&[4], 0, 100), [0, 1, 0, 0]);
+    assert_eq!(l.with_old_sums(), [(11, 116)]);
+    l.refused_by_all();
+    l.play(&Step::Put { word: 11, value: 16 });
+    l.totals_are(4, 1, 64);
+
+    l.p();
+    l.done(&Call::set(&[4], 0, 0), [0, 1, 0, 0]);
+    assert_eq!(l.with_old_sums(), []);
+    l.totals_are(4, 1, 64);
+
+    l.new_pool(16);
+    l.done(&set(&[1, 2]), [2, 0, 0, 0]);
+    l.done(&Call::set(&[2], 0, 5), [0, 1, 0, 0]);
+    assert_eq!(l.with_old_sums(), []);
+    l.totals_are(1, 1, 16);
 }

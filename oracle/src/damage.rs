@@ -1,4 +1,5 @@
 //! Pools damaged by hand: what a word is changed to, and the calls that must then answer 2, or answer for the pool that it has become.
+use crate::before;
 use crate::random::Random;
 use crate::script::{Script, Step};
 use crate::session::{Difference, Session};
@@ -32,11 +33,12 @@ fn values(r: &mut Random, pool: &[u8], w: u64) -> Vec<u64> {
 }
 
 /// One call of each kind in turn.
+const CALLS: usize = 13;
 fn call(r: &mut Random, turn: usize) -> Step {
     let k = r.below(20) as u64;
     let held = Reference { place: 256 + k, size: 16 };
     let all = Request { start: Bound::Unbounded, end: Bound::Unbounded, down: r.one_in(2), least: 0 };
-    match turn % 13 {
+    match turn % CALLS {
         0 => Step::Totals,
         1 => Step::Get { keys: vec![k, k + 1], room: 48 },
         2 => Step::Scan { request: all, room: 24 * r.below(30) },
@@ -89,6 +91,18 @@ pub fn more<'l>(lib: &'l dyn Library, st: Settings, x: &Index, r: &mut Random, t
         };
         steps.push(Step::Totals);
         steps.push(call(r, turn / 4));
+        run(&mut whole, st, x, &steps).map_err(|d| (script(steps.clone()), d))?;
+    }
+    Ok(whole)
+}
+
+/// The pool of x as it was before a size sum counted live entries alone, asked by each kind of call.
+pub fn old_sums<'l>(lib: &'l dyn Library, st: Settings, x: &Index, r: &mut Random) -> Result<Session<'l>, (Script, Difference)> {
+    let script = |steps: Vec<Step>| Script { settings: st, start: Some(x.clone()), steps };
+    let mut whole = Session::new(lib, st, Some(x)).map_err(|d| (script(vec![]), d))?;
+    for turn in 0..CALLS {
+        let mut steps = before::old_sums(&st, x);
+        steps.push(call(r, turn));
         run(&mut whole, st, x, &steps).map_err(|d| (script(steps.clone()), d))?;
     }
     Ok(whole)

@@ -1,5 +1,6 @@
 //! The library as the oracle's programs see it, what stands in for it, and the parts of the comparison.
 pub mod alarm;
+pub mod before;
 pub mod cases;
 pub mod damage;
 pub mod frames;

@@ -1,6 +1,7 @@
 //! What a numbered case or a reading does to its pool, and what it wants to be answered: each call is put among the lines and held to that.
 //!
 //! Order 4, minimum 2. A key k has place 256 + k and size 16, as in document 01's input; P is the pool after that input.
+use crate::before::old_sums;
 use crate::lines::{Lines, Told};
 use crate::script::Step;
 use crate::stand_in::entry_bytes;
@@ -8,7 +9,7 @@ use plain::frame::{write_frame, Frame};
 use plain::pool::{slot_words, word, HEADER};
 use plain::read_frame::read_line;
 use plain::tree::{Index, Node};
-use plain::{Bound, Call, Entry, Request, Settings};
+use plain::{Action, Bound, Call, Entry, Expectation, Request, Settings};
 use std::ops::RangeInclusive;
 
 pub const DESK: Settings = Settings { nodes: 16, order: 4, minimum: 2 };
@@ -125,6 +126,32 @@ impl Lines<'_> {
         let before = (self.pool().to_vec(), self.other_pool().to_vec());
         assert_eq!(self.pack().answers[0], number);
         assert_eq!((self.pool(), self.other_pool()), (&before.0[..], &before.1[..]));
+    }
+    /// The pool at hand as it was before a size sum counted live entries alone: the words that were others, and what they were.
+    pub fn with_old_sums(&mut self) -> Vec<(usize, u64)> {
+        let steps = old_sums(&self.settings(), self.index().expect("sound"));
+        let others = steps.iter().map(|step| {
+            self.play(step);
+            let Step::Put { word, value } = step else { unreachable!("words are put") };
+            (*word, *value)
+        });
+        others.collect()
+    }
+    /// Every call on the pool at hand is refused as 2.
+    #[track_caller]
+    pub fn refused_by_all(&mut self) {
+        for c in [set(&[1]), Call::remove(&[1]), Call::set(&[1], 1, 1), Call::compare(&[1], Expectation::Absent, Action::Remove)] {
+            self.refused(&c, 2);
+        }
+        let request = up(Bound::Unbounded, Bound::Unbounded);
+        for step in [Step::Totals, Step::Get { keys: vec![1], room: 24 }, Step::Scan { request, room: 24 }, Step::Frame { i: 0, room: 512 }] {
+            assert_eq!(self.play(&step).answers, [2]);
+        }
+        self.beside(DESK);
+        self.does_not_pack(2);
+        self.turn();
+        self.does_not_pack(2);
+        self.turn();
     }
     /// The last word of the pool at hand, one of an unused slot, is no longer 0.
     pub fn damage(&mut self) {

@@ -1,13 +1,15 @@
 //! The comparison notices a library that is wrong in one thing.
+use oracle::before::old_sums;
 use oracle::library::{Library, RawFrame};
 use oracle::packed::entries_where_packed;
 use oracle::parts::Work;
+use oracle::script::Step;
 use oracle::shrink::shrink;
 use oracle::stand_in::StandIn;
 use oracle::trees;
 use plain::pack::{is_new, packed, refusal};
 use plain::pool::{image, put, word};
-use plain::sound::index_of;
+use plain::sound::{index_of, read};
 use plain::tree::{Index, Items, Node};
 use plain::{Call, Entry, Operation, Request, Settings};
 use std::time::{Duration, Instant};
@@ -47,7 +49,10 @@ faults! {
     TouchesBehindALine
     ReadsCapitals
     WritesDisorder
-    OpensWithAnyMinimum,
+    OpensWithAnyMinimum
+    CountsDeadSizes
+    OpensByAllSizes
+    TakesOldSums,
     of packing:
     LeavesOfOrderLessOne
     ShortLeafFirst
@@ -142,6 +147,14 @@ impl Wrong {
     }
 }
 
+/// No entry is dead, so each size counts.
+fn revive(n: &mut Node) {
+    match &mut n.items {
+        Items::Entries(es) => es.iter_mut().for_each(|e| e.place = e.place.max(1)),
+        Items::Nodes(ns) => ns.iter_mut().for_each(revive),
+    }
+}
+
 fn number_by_level(root: &mut Node) {
     let mut next = 0;
     let mut level = vec![root];
@@ -174,7 +187,22 @@ impl Library for Wrong {
             let last = pool.len() / 8 - 1;
             put(&mut mended, last, 0);
         }
-        StandIn.totals(&mended, totals)
+        if let (true, Some((st, x))) = (self.is(TakesOldSums), read(pool)) {
+            let current = image(&st, &x);
+            mended.clone_from(&current);
+            for step in old_sums(&st, &x) {
+                if let Step::Put { word, value } = step {
+                    put(&mut mended, word, value);
+                }
+            }
+            mended = if mended == pool { current } else { pool.to_vec() };
+        }
+        let number = StandIn.totals(&mended, totals);
+        if self.is(CountsDeadSizes) && number == 0 {
+            let x = index_of(pool).expect("sound").1;
+            totals[2] = x.entries().iter().map(|e| u64::from(e.size)).sum();
+        }
+        number
     }
     fn set(&self, pool: &mut [u8], keys: &[u64], place: u64, size: u32, counts: &mut [u64; 4]) -> u32 {
         self.done(pool, &Call::set(keys, place, size), counts)
@@ -208,6 +236,12 @@ impl Library for Wrong {
             ListsTheDead if number == 0 => {
                 let x = index_of(pool).expect("sound").1;
                 told[0] = told[0].max((x.entries().len() as u64).min(out.len() as u64 / 24).min(1));
+            }
+            // where no more is due each node that is entered counts
+            OpensByAllSizes if number == 0 && told[1] == 0 => {
+                let mut x = index_of(pool).expect("sound").1;
+                revive(&mut x.root);
+                told[2] = plain::look::scan(q, usize::MAX, &x).opened;
             }
             _ => {}
         }

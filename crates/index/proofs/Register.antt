@@ -32,6 +32,10 @@ use Rattle.index.specs.Register.{AnswersFrom, sweptOf, Turn, Runs, rest,
 
 -- WHAT A PROMISE SAYS OF A SOUND POOL
 
+-- two answers that are done and the same say the same
+pub done-is : {A : Type 0} {a b : A} → done a ≡ done b → a ≡ b
+done-is e = cc
+
 pub answers-from : (es : List Entry) (l : List ℕ) → SoundPool l → entriesOf (indexOf l) ≡ es → AnswersFrom es l
 answers-from es l s e =
     let m : D.AnswersFrom es (indexOf l) = M.answers-from (indexOf l) es e in
@@ -77,9 +81,6 @@ module _ (c : Call) (l : List ℕ) where
     where
       by : (n : ℕ) → refusal st c (indexOf l) ≡ n → (done k leaving m) ≡ left (unless n outcome) → Accepted c l k m
       by zero q f = record { sound = s; passed = q; counts = done-is (ap (λ (w : Left Counts). w .answer) f); bytes = ap (λ (w : Left Counts). w .bytes) f }
-        where
-          done-is : done k ≡ done (outcome .counts) → k ≡ outcome .counts
-          done-is g = cc
       by (suc n) q f = absurd (refused-done (suc n) k (sym (ap (λ (w : Left Counts). w .answer) f)))
 
   -- it was refused: the pool is as it was

@@ -63,7 +63,7 @@ pub extern "C" fn alarm_pack(source: &[u8], target: &mut [u8]) -> u32
     tell_pack(answer)
 }
 
-// Live entries, dead ones, and the sum of the sizes of all.
+// Live entries, dead ones, and the sum of the sizes of the live ones.
 #[no_mangle]
 pub extern "C" fn alarm_totals(pool: &[u8], totals: &mut [u64; 3]) -> u32
     ensures { λ r. ⌜ TotalsCall (now (pool .entry)) (now (totals .entry)) r (now (totals .exit)) ⌝ }

@@ -11,7 +11,7 @@ use model::Direction;
 use model::Request;
 use model::Sift;
 
-// The number of live entries, of dead ones, and the sum of the sizes of all. Refused as 2.
+// The number of live entries, of dead ones, and the sum of the sizes of the live ones. Refused as 2.
 pub fn totals(pool: &[u8]) -> TotalsAnswer
     ensures { λ r. ⌜ Totalling (now (pool .entry)) r ⌝ }
 {

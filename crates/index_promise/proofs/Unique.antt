@@ -35,6 +35,11 @@ pub by-sound : {P A : Type 0} {a b r : A} → P → Where P a b r → r ≡ a
 by-sound p (holds q e) = e
 by-sound p (fails q e) = absurd (q p)
 
+-- and where it is known to fail
+pub by-unsound : {P A : Type 0} {a b r : A} → (P → ⊥) → Where P a b r → r ≡ b
+by-unsound u (holds q e) = absurd (u q)
+by-unsound u (fails q e) = e
+
 -- what a call leaves is known by its parts
 parts : {A : Type 0} {a b : Answer A} {l m : List ℕ} → (a leaving l) ≡ (b leaving m) → (a ≡ b) × (l ≡ m)
 parts {A = A} e = (ap (λ (w : Left A). w .answer) e, ap (λ (w : Left A). w .bytes) e)

@@ -14,12 +14,12 @@ use Rattle.model.specs.declared.Settings.{Settings}
 use Rattle.model.specs.Lists.{concat}
 use Rattle.model.specs.Tree.{Tree, len, entries, entriesOf, totalsOf}
 use Rattle.model.specs.declared.Request.{Request}
-use Rattle.model.specs.Look.{listing, getAll, found, entering, openings, dueIn}
+use Rattle.model.specs.Look.{listing, getAll, found, openings, dueIn}
 use Rattle.model.specs.Look as M
 use Rattle.model.specs.Sound.{Rooted, Alone}
 use Rattle.model.proofs.Lists.{all-head}
 use Rattle.model.proofs.Layers.{handed-root}
-use Rattle.model.proofs.Scans.{openings-few, entering-thin, openings-law}
+use Rattle.model.proofs.Scans.{openings-few, openings-law}
 use Rattle.tree.specs.Bridge.{nodeFor, treeAt}
 use Rattle.tree.specs.Sums.{sumRows, Sums}
 use Rattle.tree.specs.Contracts.{ToWeigh, InPool}
@@ -105,7 +105,7 @@ module _ (l : List ℕ) (st : Settings) (height : ℕ) (k : InPool l st height) 
           fresh = refl;
           few = omega (
             arith,
-            openings-few q (settingsIn l) (entering q) (entering-thin q (settingsIn l)) (indexOf l .height) (indexOf l .root) (sound .whole) (sound .sorted),
+            openings-few q (settingsIn l) (indexOf l .height) (indexOf l .root) (sound .whole) (sound .sorted),
             used-few (settingsIn l) (indexOf l) sound,
           );
         };

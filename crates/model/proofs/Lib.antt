@@ -22,5 +22,6 @@ pub mod Levels
 pub mod Least
 pub mod Only
 pub mod Packing
+pub mod LiveSizes
 pub mod Demands
 pub mod Cases

@@ -265,10 +265,14 @@ idle-from k (e ∷ fs) = go (eqb (e .key) k) refl
     go true q = ap (λ (j : ℕ). record { key = j; place = e .place; size = e .size } ∷ fs) (sym (eqb-true (e .key) k q))
     go false q = refl
 
+-- a list is what is below a key, what is held under it, and what is above it
+pub joined-again : (k : ℕ) (es : List Entry) → below k es ++ (under k (held k es) Leave ++ above k (from k es)) ≡ es
+joined-again k es = ap (below k es ++_) (idle-from k (from k es)) ∙ cut k es
+
 pub step-idle : (t : Task) (es : List Entry) → alters (effectOn t es) ≡ false → step t es ≡ es
 step-idle t es q =
     ap (λ (x : Effect). below (t .key) es ++ (under (t .key) (held (t .key) es) x ++ above (t .key) (from (t .key) es))) (idle (effectOn t es) q)
-    ∙ ap (below (t .key) es ++_) (idle-from (t .key) (from (t .key) es)) ∙ cut (t .key) es
+    ∙ joined-again (t .key) es
 
 -- LENGTHS: a key adds one entry at most, and a removal none
 

@@ -1,6 +1,6 @@
 -- Lists with elements left out of which something holds. Assumes nothing.
 use mathlib.Core.Path.{_≡_, refl, sym, ap, _∙_, subst}
-use mathlib.Core.Bool.{Bool, true, false, cond}
+use mathlib.Core.Bool.{Bool, true, false, cond, true≢false}
 use mathlib.Core.List.{List, [], _∷_, _++_, map, reverse, reverse-cons, append-nil}
 use Prim.Native.Nat.{_≤_}
 use native.Mathlib.Omega.{arith}
@@ -34,6 +34,19 @@ module _ {A : Type 0} {P : A → Type 0} where
       go true f k = stays k
       go false f k = goes (f refl) k
 
+  -- of two tests the stricter leaves out what the other lets pass
+  pub thin-keeps : (p r : A → Bool) {xs : List A} → All (λ x. p x ≡ true → r x ≡ true) xs → All (λ x. p x ≡ false → r x ≡ true → P x) xs
+      → Thinned P (keep p xs) (keep r xs)
+  thin-keeps p r none none = done
+  thin-keeps p r (one {x = x} {xs = xs} f fs) (one g gs) = go (p x) (r x) f g (thin-keeps p r fs gs)
+    where
+      go : (s t : Bool) → (s ≡ true → t ≡ true) → (s ≡ false → t ≡ true → P x) → Thinned P (keep p xs) (keep r xs)
+          → Thinned P (cond s (x ∷ keep p xs) (keep p xs)) (cond t (x ∷ keep r xs) (keep r xs))
+      go true true f g k = stays k
+      go true false f g k = absurd (true≢false (sym (f refl)))
+      go false true f g k = goes (g refl refl) k
+      go false false f g k = k
+
   pub thin-again : {xs ys zs : List A} → Thinned P xs ys → Thinned P ys zs → Thinned P xs zs
   thin-again t done = t
   thin-again t (goes g u) = goes g (thin-again t u)
@@ -66,10 +79,10 @@ module _ {A : Type 0} {P : A → Type 0} where
   thin-long (goes g t) = omega (arith, thin-long t)
 
 -- parts that are empty can be left out of what is joined
-pub thin-joined : {A B : Type 0} (f : A → List B) {xs ys : List A} → Thinned (λ x. f x ≡ []) xs ys → concat (map f xs) ≡ concat (map f ys)
-thin-joined f done = refl
-thin-joined f (stays {x = x} t) = ap (f x ++_) (thin-joined f t)
-thin-joined f (goes {ys = ys} g t) = thin-joined f t ∙ ap (_++ concat (map f ys)) (sym g)
+pub thin-joined : {A : Type 0} {xs ys : List (List A)} → Thinned (λ x. x ≡ []) xs ys → concat xs ≡ concat ys
+thin-joined done = refl
+thin-joined (stays {x = x} t) = ap (x ++_) (thin-joined t)
+thin-joined (goes {ys = ys} g t) = thin-joined t ∙ ap (_++ concat ys) (sym g)
 
 -- thinned parts of a thinned list, joined
 pub thin-parts : {A B : Type 0} {P : A → Type 0} {Q : B → Type 0} (f g : A → List B) {xs ys : List A} → Thinned P xs ys

@@ -17,7 +17,7 @@ use Rattle.model.specs.Lists.{concat, hit, times, All, none, one}
 use Rattle.model.specs.Tree.{Node, Item, Tree, Index, len, entries, slots, slotsOf, greatestKey, lastOf, total, isLive, adds, plus, sumOf, noTotals}
 use Rattle.model.specs.Sound.{Whole, Rooted, Sorted, Fits, Once, Sound}
 use Rattle.model.specs.Contracts.{flat, joined, back}
-use Rattle.model.proofs.Lists.{all-append, all-right, all-map, ordered-apart, parts-append, times-append, hit-same, hit-other}
+use Rattle.model.proofs.Lists.{by-test, all-append, all-right, all-map, ordered-apart, parts-append, times-append, hit-same, hit-other}
 use Rattle.model.proofs.Plain.{Under, Over}
 
 -- ENTRIES OF ITEMS SIDE BY SIDE
@@ -137,10 +137,14 @@ pub totals-count : (es : List Entry) → listTotals es .live + listTotals es .de
 totals-count [] = refl
 totals-count (e ∷ es) = omega (arith, live-or-dead (isLive e), totals-count es)
 
+-- an entry adds its size at most
+pub adds-most : (e : Entry) → adds e .size ≤ e .size
+adds-most e = by-test (_≤ e .size) (isLive e) (λ _. omega arith) (λ _. omega arith)
+
 -- sizes of 32 bits add up to little
 pub sizes-few : {es : List Entry} → All Fits es → listTotals es .size ≤ length es * 4294967296
 sizes-few none = omega arith
-sizes-few (one {x = e} f fs) = omega (arith, f .size, sizes-few fs)
+sizes-few (one {x = e} f fs) = omega (arith, f .size, adds-most e, sizes-few fs)
 
 -- SLOTS, counted
 

@@ -6,7 +6,7 @@ use mathlib.Core.List.{List, [], _∷_, map}
 use Prim.Native.Nat.{ℕ, zero, suc, _+_, _-_}
 use Prim.Native.Char.{code}
 use Prim.Native.String as String
-use lib.ListN.{length}
+use lib.ListN.{length, take}
 use Rattle.model.specs.declared.Entry.{Entry}
 use Rattle.model.specs.declared.Reference.{Reference}
 use Rattle.model.specs.declared.Settings.{Settings}
@@ -27,11 +27,12 @@ use Rattle.model.specs.Plain.{entryFor}
 use Rattle.model.specs.Share.{shareOut}
 use Rattle.model.specs.Change.{Batched}
 use Rattle.model.specs.Answer.{Answer, refused, done}
-use Rattle.model.specs.Look.{Listing, scan}
+use Rattle.model.specs.Look.{Listing, requestFor, scan}
 use Rattle.model.specs.Refuse.{Call, answer, indexAfter, get}
 use Rattle.model.specs.Frame.{Frame, leaf, interior, framesOf, lineOf}
 use Rattle.model.specs.ReadFrame.{readLine}
 use Rattle.model.specs.Pack.{packedIndex, packRefusal}
+use Rattle.model.specs.LiveSizes.{clear, scanByAll}
 
 pub record Case : Type 1 where
   pub Kind : Type 0
@@ -113,14 +114,10 @@ pub record Seen : Type 0 where
   pub opened : ℕ
   pub more : Bool
 
--- key 2 marked as deleted: its entry is dead
-abbrev pub clear2 : Call
-clear2 = record { operation = Op.Set (record { place = 0; size = 5 }); places = []; sizes = []; keys = 2 ∷ [] }
-
 -- a scan between two bounds, of what passes a sift, with room for so many
 abbrev pub sifted : Sift → Direction → Bound → Bound → ℕ → Index → Seen
 sifted f d a b room x =
-    let s = scan (record { start = a; end = b; direction = d; sift = f }) room x in
+    let s = scan (requestFor a b d f) room x in
     record { keys = map (λ e. e .key) (s .listed .written); opened = s .opened; more = s .listed .more }
 
 abbrev pub between : Direction → Bound → Bound → ℕ → Index → Seen
@@ -128,6 +125,10 @@ between = sifted All
 
 abbrev pub ofSize : ℕ → Direction → Index → Seen
 ofSize s d x = sifted (SizeAtLeast s) d Unbounded Unbounded 9 x
+
+-- the nodes that such a scan opened by the sum of before
+abbrev pub ofSizeByAll : ℕ → Direction → Index → ℕ
+ofSizeByAll s d x = scanByAll (requestFor Unbounded Unbounded d (SizeAtLeast s)) 9 x .opened
 
 abbrev pub P : Index
 P = after desk (set (1 ∷ 2 ∷ 3 ∷ 4 ∷ []) ∷ set (5 ∷ []) ∷ []) (newIndex 16)
@@ -248,13 +249,23 @@ readings =
     -- Compare whose action is Remove: on an absent key it does nothing, and refusal 7 is for it too
     ∷ case (List (List ℕ)) (told (answer desk absentRemove (newIndex 16)) ∷ told (answer eight absentRemove fiveOfEight) ∷ [])
     ((0 ∷ 0 ∷ 0 ∷ 1 ∷ []) ∷ (7 ∷ []) ∷ [])
-    -- a dead entry is no more listed by a scan, still found by a get, and counted as dead
-    ∷ case (List Seen × Answer Listing × Totals)
-    (let x = after desk (clear2 ∷ []) P in (between Up Unbounded (Included 3) 9 x ∷ [], get (2 ∷ []) 9 x, totalsOf x)) (
+    -- a dead entry is no more listed by a scan, still found by a get, and counted as dead; its size is in no sum, nor in an interior's frame
+    ∷ case (List Seen × Answer Listing × Totals × List (List ℕ))
+    (let x = after desk (clear (2 ∷ []) 5 ∷ []) P in (between Up Unbounded (Included 3) 9 x ∷ [], get (2 ∷ []) 9 x, totalsOf x, take 1 (lines x))) (
       record { keys = 1 ∷ 3 ∷ []; opened = 3; more = false } ∷ [],
       listed (record { key = 2; place = 0; size = 5 } ∷ []),
-      record { live = 4; dead = 1; size = 69 },
+      record { live = 4; dead = 1; size = 64 },
+      text "000000000000000003000000010000000200000001000000000000002000000000000000050000000200000002000000000000000000000020" ∷ [],
     )
+    -- a leaf of 100 dead beside 16 is no more opened for 50; by the sum of before it was
+    ∷ case (List Seen × List ℕ)
+    (let x = after desk (clear (4 ∷ []) 100 ∷ []) P in (ofSize 50 Up x ∷ ofSize 50 Down x ∷ [], ofSizeByAll 50 Up x ∷ ofSizeByAll 50 Down x ∷ []))
+    (record { keys = []; opened = 1; more = false } ∷ record { keys = []; opened = 1; more = false } ∷ [], 2 ∷ 2 ∷ [])
+    -- a leaf whose entries are all dead has sum 0: it is opened where no size is asked for, and by SizeAtLeast 0
+    ∷ case (List ℕ)
+    (let x = after desk (clear (4 ∷ 5 ∷ []) 100 ∷ []) P in
+    between Up Unbounded Unbounded 9 x .opened ∷ ofSize 0 Up x .opened ∷ ofSize 1 Up x .opened ∷ ofSizeByAll 1 Up x ∷ [])
+    (3 ∷ 3 ∷ 2 ∷ 3 ∷ [])
     -- start above end
     ∷ case (List Seen) (between Up (Included 5) (Included 1) 9 P ∷ between Down (Included 5) (Included 1) 9 P ∷ [])
     (record { keys = []; opened = 1; more = false } ∷ record { keys = []; opened = 2; more = false } ∷ [])

@@ -1,4 +1,4 @@
--- Document 01 as definitions, one idea a file. `Sound`, `Demands` and `Packing` say what is proved of them, in proofs/;
+-- Document 01 as definitions, one idea a file. `Sound`, `Demands`, `Packing` and `LiveSizes` say what is proved of them, in proofs/;
 -- `Contracts` has the words of the inner crates' contracts.
 pub mod Lists
 pub mod Tree
@@ -15,4 +15,5 @@ pub mod Sound
 pub mod Contracts
 pub mod Demands
 pub mod Packing
+pub mod LiveSizes
 pub mod Cases

@@ -61,7 +61,7 @@ abbrev pub turned {ℓ} : {A : Type ℓ} → Direction → List A → List A
 turned Up xs = xs
 turned Down xs = reverse xs
 
--- the figure by which a child is skipped: its total size
+-- the figure by which a child is skipped: the total size of its live entries
 abbrev pub figure : Totals → ℕ
 figure t = t .size
 

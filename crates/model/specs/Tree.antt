@@ -64,9 +64,9 @@ isLive e = not (isMark (e .place))
 abbrev pub noTotals : Totals
 noTotals = record { live = 0; dead = 0; size = 0 }
 
--- what an entry adds to a total
+-- what an entry adds to a total: a dead one is counted, but its size is not
 abbrev pub adds : Entry → Totals
-adds e = record { live = cond (isLive e) 1 0; dead = cond (isLive e) 0 1; size = e .size }
+adds e = record { live = cond (isLive e) 1 0; dead = cond (isLive e) 0 1; size = cond (isLive e) (e .size) 0 }
 
 -- interior totals are the field sums
 abbrev pub plus : Totals → Totals → Totals

@@ -104,7 +104,7 @@ pub struct Counts {
     pub nothing: usize,
 }
 
-// The number of live entries, of dead ones, and the sum of the sizes of all.
+// The number of live entries, of dead ones, and the sum of the sizes of the live ones.
 pub struct Totals {
     pub live: u32,
     pub dead: u32,

@@ -41,7 +41,7 @@ small-addable a b i lt s t =
 pub entry-slight : (e : Entry) → e .size < 4294967296 → Slight (adds e)
 entry-slight e h = by (isLive e)
   where
-    by : (b : Bool) → Slight (record { live = cond b 1 0; dead = cond b 0 1; size = e .size })
+    by : (b : Bool) → Slight (record { live = cond b 1 0; dead = cond b 0 1; size = cond b (e .size) 0 })
     by true = record { live = omega arith; dead = omega arith; size = omega arith }
     by false = record { live = omega arith; dead = omega arith; size = omega arith }
 

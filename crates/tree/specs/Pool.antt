@@ -91,8 +91,8 @@ pub record Zeros (st : Settings) (W : List ℕ) (s : ℕ) : Type 0 where
   pub tail : Canon (st .rows) (rawAt st W s)
   pub whole : nth (nodes st W) s .kind ≡ unusedKind → nth (nodes st W) s ≡ unused
 
--- of the nodes ns of a pool with the settings st
-pub record SoundNodes (st : Settings) (ns : List S.Node) : Type 0 where
+-- of the nodes ns of a pool with the settings st, where Right says what totals are right in an interior's row, for the child that it names
+pub record SoundNodesBy (Right : (h : ℕ) → Row → Tree h → Type 0) (st : Settings) (ns : List S.Node) : Type 0 where
   -- each node in use is reached once from the root's slot, and no unused one is
   pub once : Once (st .nodes) (slotsOf (indexIn (st .root) ns)) (unusedOf ns)
   -- leaves share one depth, at most 8
@@ -107,14 +107,21 @@ pub record SoundNodes (st : Settings) (ns : List S.Node) : Type 0 where
   -- each separator is its child's greatest key
   pub separators : EachChild Separates ns (indexIn (st .root) ns .height) (st .root)
   -- stored totals are right
-  pub totals : EachChild Totalled ns (indexIn (st .root) ns .height) (st .root)
+  pub totals : EachChild Right ns (indexIn (st .root) ns .height) (st .root)
 
 -- of its bytes
-pub record SoundPool (l : List ℕ) : Type 0 where
+pub record SoundPoolBy (Right : (h : ℕ) → Row → Tree h → Type 0) (l : List ℕ) : Type 0 where
   pub layout : layoutOf (words l) ≡ layoutNumber
   -- the settings are in limits, and the length is exact
   pub settings : InLimits (settingsIn l)
   pub exact : length l ≡ poolLen (givenIn l)
-  pub nodes : SoundNodes (settingsIn l) (nodesIn l)
+  pub nodes : SoundNodesBy Right (settingsIn l) (nodesIn l)
   -- unused slots, and what is past a node's rows, are all zero
   pub zeros : (s : ℕ) → Zeros (settingsIn l) (words l) s
+
+-- the totals are those of the child's tree
+abbrev pub SoundNodes : Settings → List S.Node → Type 0
+SoundNodes = SoundNodesBy Totalled
+
+abbrev pub SoundPool : List ℕ → Type 0
+SoundPool = SoundPoolBy Totalled

@@ -1,5 +1,5 @@
 // What the words of a row mean, and what a row adds to its node. A leaf's row is an entry: its key, its place and its size. An interior's
-// row is a child: its greatest key, its slot beside its live and dead entries, and its size sum.
+// row is a child: its greatest key, its slot beside its live and dead entries, and the size sum of the live ones.
 //
 // The crates of the index ask here, so that none but this one takes a row apart or puts one together.
 ghost use mathlib.Core.Path.{_≡_};
@@ -24,7 +24,7 @@ pub fn row_totals(height: usize, row: Row) -> Totals
     child_totals(row)
 }
 
-// What a leaf's row adds: its entry, dead or live.
+// What a leaf's row adds: its entry, dead or live. The size of a dead one does not count.
 pub fn entry_totals(row: Row) -> Totals
     ensures { λ r. ⌜ r ≡ adds (entryOf row) ⌝ }
 {
@@ -33,7 +33,7 @@ pub fn entry_totals(row: Row) -> Totals
         return Totals {
             live: 0,
             dead: 1,
-            size: row.size,
+            size: 0,
         };
     }
     Totals {

@@ -88,7 +88,10 @@ fn slot_allows(pool: &[u8], nodes: usize, order: usize, s: Spot, was: u64, v: u6
     match (s.part - 2) % 3 {
         0 => key_allows(pool, nodes, order, s.slot, row, was, v),
         1 => place_allows(s.slot, was, v),
-        _ => size_allows(s.slot, v),
+        _ => {
+            let place = slot_word(pool, order, s.slot, s.part - 1);
+            size_allows(s.slot, place, v)
+        }
     }
 }
 
@@ -129,10 +132,12 @@ fn place_allows(slot: usize, was: u64, v: u64) -> bool {
     (was == 0) == (v == 0)
 }
 
-// A parent knows the sum of the sizes; a size has 32 bits.
-fn size_allows(slot: usize, v: u64) -> bool {
+// A parent knows the sum of the live entries' sizes, so the size of a dead one is free; a size has 32 bits.
+fn size_allows(slot: usize, place: u64, v: u64) -> bool {
     if slot != 0 {
-        return false;
+        if place != 0 {
+            return false;
+        }
     }
     v < 0x1_0000_0000
 }

@@ -53,7 +53,7 @@ fn reached<'n>(q: &Request, ns: &'n [Node]) -> Vec<&'n Node> {
     ns[..past.map_or(ns.len(), |i| i + 1)].iter().collect()
 }
 
-/// A child is skipped if its separator fails the start bound or its total size is below s.
+/// A child is skipped if its separator fails the start bound or the total size of its live entries is below s.
 fn entered(q: &Request, n: &Node) -> bool {
     starts(q.start, n.greatest_key()) && u64::from(q.least) <= n.totals().size
 }

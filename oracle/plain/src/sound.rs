@@ -53,6 +53,11 @@ fn level_at(n: &Node, depth: usize) -> bool {
 
 /// The settings and the index of a sound pool; none where it is not sound.
 pub fn index_of(bytes: &[u8]) -> Option<(Settings, Index)> {
+    read(bytes).filter(|(st, x)| image(st, x) == bytes)
+}
+
+/// The same, whatever separators, totals and zeros say.
+pub fn read(bytes: &[u8]) -> Option<(Settings, Index)> {
     if bytes.len() < 8 * HEADER || word(bytes, 0) != 1 {
         return None;
     }
@@ -65,6 +70,5 @@ pub fn index_of(bytes: &[u8]) -> Option<(Settings, Index)> {
     let unused = (0..st.nodes).filter(|&s| !reader.reached[s]).collect();
     let x = Index { root, unused };
     let sorted = x.entries().windows(2).all(|w| w[0].key < w[1].key);
-    let sound = level_at(&x.root, x.depth()) && sorted && image(&st, &x) == bytes;
-    sound.then_some((st, x))
+    (level_at(&x.root, x.depth()) && sorted).then_some((st, x))
 }

@@ -122,9 +122,12 @@ impl Node {
     }
 }
 
+/// A dead entry is counted, but its size is not.
 pub fn adds(e: &Entry) -> Totals {
-    let live = u64::from(e.place != 0);
-    Totals { live, dead: 1 - live, size: u64::from(e.size) }
+    match e.place {
+        0 => Totals { live: 0, dead: 1, size: 0 },
+        _ => Totals { live: 1, dead: 0, size: u64::from(e.size) },
+    }
 }
 
 pub fn plus(a: Totals, b: Totals) -> Totals {

@@ -19,6 +19,8 @@ impl Work<'_> {
             self.tally.add(&s.tally);
             let s = damage::more(self.lib, st, &x, &mut self.random, 400).map_err(|(s, d)| (Some(s), d))?;
             self.tally.add(&s.tally);
+            let s = damage::old_sums(self.lib, st, &x, &mut self.random).map_err(|(s, d)| (Some(s), d))?;
+            self.tally.add(&s.tally);
             first = false;
         }
         Ok(())

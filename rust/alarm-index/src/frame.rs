@@ -14,7 +14,7 @@ pub struct Branch {
     pub live: u32,
     /// The number of dead ones.
     pub dead: u32,
-    /// The sum of the sizes of all.
+    /// The sum of the sizes of the live ones.
     pub size: u64,
 }
 

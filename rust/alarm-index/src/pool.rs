@@ -38,7 +38,7 @@ pub struct Totals {
     pub live: u64,
     /// The number of dead ones.
     pub dead: u64,
-    /// The sum of the sizes of all.
+    /// The sum of the sizes of the live ones.
     pub size: u64,
 }
 

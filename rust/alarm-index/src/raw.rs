@@ -117,7 +117,7 @@ pub fn open(pool: &mut [u8], nodes: u64, order: u64, minimum: u64) -> u32 {
     unsafe { c::alarm_open(pool.as_mut_ptr(), pool.len(), nodes, order, minimum) }
 }
 
-/// Totals: live entries, dead entries, the sum of the sizes of all. Refused as 2.
+/// Totals: live entries, dead entries, the sum of the sizes of the live ones. Refused as 2.
 #[must_use]
 pub fn totals(pool: &[u8], totals: &mut [u64; 3]) -> u32 {
     unsafe { c::alarm_totals(pool.as_ptr(), pool.len(), totals) }

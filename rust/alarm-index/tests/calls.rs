@@ -170,7 +170,7 @@ fn totals_and_dead_entries() {
     let mut bytes = p();
     assert_eq!(View::new(&bytes).totals(), Ok(Totals { live: 5, dead: 0, size: 80 }));
     Pool::new(&mut bytes).set(&[2], Reference { place: 0, size: 5 }).expect("done");
-    assert_eq!(View::new(&bytes).totals(), Ok(Totals { live: 4, dead: 1, size: 69 }));
+    assert_eq!(View::new(&bytes).totals(), Ok(Totals { live: 4, dead: 1, size: 64 }));
     let mut out = [0; ENTRY_LEN];
     let got = View::new(&bytes).get(&[2], &mut out).expect("got");
     assert_eq!(got.entries.map(|e| (e, e.is_live())).collect::<Vec<_>>(), [(Entry { key: 2, place: 0, size: 5 }, false)]);
