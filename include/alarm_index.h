@@ -27,7 +27,8 @@
 #define ALARM_INDEX_MAJOR 2
 #define ALARM_INDEX_MINOR 0
 
-/* The layout of a pool (docs/POOL.md). A pool of another layout is refused as ALARM_NOT_SOUND. */
+/* The layout of a pool (docs/POOL.md). A pool of another layout is refused as ALARM_NOT_SOUND, and so is one of this layout in which a size sum
+ * counts dead entries too, as all did up to version 1.1. */
 #define ALARM_LAYOUT 1
 
 /* The archive's counts have 64 bits, and its flags one byte. Where the compiler stops here, the archive is not for this processor. */

@@ -41,7 +41,7 @@ pub fn batch(
 {
     let mut height = root.height;
     let spare = root.spare;
-    let counts = model::no_counts();
+    let counts = model_code::no_counts();
     let mut run = Run {
         next: 0,
         counts,

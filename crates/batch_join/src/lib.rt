@@ -18,7 +18,7 @@ use batch_share::renew::child_len;
 use batch_share::renew::renew;
 use batch_share::renew::renew_two;
 use model::Settings;
-use model::half;
+use model_code::half;
 use tree_node::child_at;
 use tree_spare::Spare;
 use tree_spare::after_freeing;

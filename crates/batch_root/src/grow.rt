@@ -5,7 +5,7 @@ ghost use Rattle.slots.specs.Contracts.{NodesPut};
 ghost use Rattle.batch_root.specs.Contracts.{ToSplitRoot, Halved, ToMove, ToCrown};
 ghost use Rattle.batch_root.specs.Roots.{moved, crowned};
 use model::Settings;
-use model::half;
+use model_code::half;
 use slots::INTERIOR;
 use tree_node::weigh;
 use tree_spare::Spare;

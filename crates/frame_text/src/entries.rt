@@ -44,7 +44,7 @@ pub fn leaf_entry(key: u64, place: u64, size: u32) -> FrameEntry
         key,
         reference: Reference { place, size },
         child: 0,
-        totals: model::no_totals(),
+        totals: model_code::no_totals(),
     }
 }
 

@@ -26,7 +26,7 @@ pub fn tree_refusal(height: usize, unused: usize, n: usize, op: Operation) -> u3
 fn exempt(op: Operation, n: usize) -> bool
     ensures { λ r. ⌜ r ≡ exempts op n ⌝ }
 {
-    n == 0 || model::is_remove(op)
+    n == 0 || model_code::is_remove(op)
 }
 
 // The unused nodes that a batch of `n` keys wants at a depth.

@@ -15,15 +15,15 @@ pub fn is_due(q: Request, row: Row) -> bool
     ensures { λ r. ⌜ r ≡ due q (entryOf row) ⌝ }
 {
     let place = tree_rows::entry_place(row);
-    if model::is_mark(place) {
+    if model_code::is_mark(place) {
         return false;
     }
     let start = q.start;
-    if !model::starts(start, row.key) {
+    if !model_code::starts(start, row.key) {
         return false;
     }
     let end = q.end;
-    if !model::ends(end, row.key) {
+    if !model_code::ends(end, row.key) {
         return false;
     }
     is_large(q, row.size)
@@ -34,11 +34,11 @@ pub fn is_entered(q: Request, row: Row) -> bool
     ensures { λ r. ⌜ r ≡ rowEnters q row ⌝ }
 {
     let start = q.start;
-    if !model::starts(start, row.key) {
+    if !model_code::starts(start, row.key) {
         return false;
     }
     let below = tree_rows::child_totals(row);
-    let figure = model::figure(below);
+    let figure = model_code::figure(below);
     is_large(q, figure)
 }
 
@@ -49,7 +49,7 @@ pub fn goes_on(q: Request, key: u64) -> bool
     let direction = q.direction;
     let end = q.end;
     match direction {
-        Direction::Up => model::ends(end, key),
+        Direction::Up => model_code::ends(end, key),
         Direction::Down => true,
     }
 }
@@ -70,6 +70,6 @@ fn is_large(q: Request, size: u64) -> bool
     ensures { λ r. ⌜ r ≡ leb (least (q .sift)) size ⌝ }
 {
     let sift = q.sift;
-    let least = model::least_size(sift);
+    let least = model_code::least_size(sift);
     least as u64 <= size
 }

@@ -8,7 +8,7 @@ ghost use Rattle.slots.specs.Contracts.{NodesPut};
 ghost use Rattle.pack.specs.Build.{entriesIn, treeFor, bare, hung};
 ghost use Rattle.pack.specs.Contracts.{ToBuild, ToFill, ToHang, Built, Filled};
 use model::Settings;
-use model::lesser;
+use model_code::lesser;
 use pack_plan::capacity;
 use slots_copy::append_rows;
 use tree_node::weigh;

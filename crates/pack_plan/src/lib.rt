@@ -3,7 +3,7 @@ ghost use mathlib.Core.Path.{_≡_};
 ghost use Prim.Native.Nat.{_≤_};
 ghost use Rattle.model.specs.Pack as pack;
 ghost use Rattle.pack_plan.specs.Contracts.{ToMeasure, ToCount, Counted};
-use model::lesser;
+use model_code::lesser;
 
 // How many entries a tree of this order and height can hold.
 pub fn capacity(order: usize, height: usize) -> usize

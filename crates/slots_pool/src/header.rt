@@ -23,7 +23,7 @@ pub fn open_pool(pool: &mut [u8], given: PoolSettings)
     let n = pool.len() / 8;
     words_runs::clear(pool, 0, n);
     write_header(pool, given);
-    let st = model::handed(given);
+    let st = model_code::handed(given);
     set_kind(pool, st, st.root, LEAF);
 }
 

@@ -40,7 +40,7 @@ pub fn survey(pool: &[u8]) -> Findings
         return nothing();
     }
     let given = slots_pool::settings(pool);
-    let st = model::handed(given);
+    let st = model_code::handed(given);
     let spares = survey_slots(pool, st);
     if !spares.ok {
         return nothing();

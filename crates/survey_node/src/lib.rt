@@ -159,7 +159,7 @@ pub fn begin(key: u64, left: usize) -> Part
     Part {
         ok: true,
         last: key,
-        totals: model::no_totals(),
+        totals: model_code::no_totals(),
         left,
     }
 }
@@ -184,7 +184,7 @@ pub fn fault() -> Part
     Part {
         ok: false,
         last: 0,
-        totals: model::no_totals(),
+        totals: model_code::no_totals(),
         left: 0,
     }
 }

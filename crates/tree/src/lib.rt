@@ -45,7 +45,7 @@ pub fn pool_len(given: PoolSettings) -> usize
     requires { ⌜ InLimits (handed given) ⌝ }
     ensures { λ r. ⌜ r ≡ poolLen given ⌝ }
 {
-    let st = model::handed(given);
+    let st = model_code::handed(given);
     8 * (HEADER + given.nodes * width(st))
 }
 

@@ -13,7 +13,7 @@ ghost use Rattle.tree.specs.Contracts.{ToWeigh};
 ghost use Rattle.tree_node.specs.Ask.{lastKey, rowOver, Chosen};
 use model::Settings;
 use model::Totals;
-use model::no_totals;
+use model_code::no_totals;
 use slots_raw::Row;
 use tree_rows::child_of;
 use tree_rows::child_row;

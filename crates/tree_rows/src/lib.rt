@@ -29,7 +29,7 @@ pub fn entry_totals(row: Row) -> Totals
     ensures { λ r. ⌜ r ≡ adds (entryOf row) ⌝ }
 {
     let place = entry_place(row);
-    if model::is_mark(place) {
+    if model_code::is_mark(place) {
         return Totals {
             live: 0,
             dead: 1,

@@ -9,7 +9,7 @@ use borrow.Fn.Kinds.{In}
 use borrow.Fn.PlainCycle.{Measures, is, falls, and}
 use Rattle.words.specs.Words.{words}
 use Rattle.model.proofs.Pieces.{capacity-some}
-use Rattle.model.proofs.lesser.Reads as lesser-reads
+use Rattle.model_code.proofs.lesser.Reads as lesser-reads
 use Rattle.slots.proofs.set_kind.Reads as set-kind-reads
 use Rattle.tree.proofs.kind_for.Reads as kind-for-reads
 use Rattle.pack_plan.proofs.capacity.Reads as capacity-reads

@@ -14,7 +14,7 @@ use Rattle.pack_plan.proofs.nodes_for.Reads as nodes-for
 use Rattle.pack_plan.proofs.nodes_for.Kinds as nodes-for-kinds
 use Rattle.pack_plan.proofs.+nodes_for.Lts-nodes_for as nodes-for-lts
 use Rattle.pack_plan.proofs.capacity.Reads as capacity-reads
-use Rattle.model.proofs.lesser.Reads as lesser-reads
+use Rattle.model_code.proofs.lesser.Reads as lesser-reads
 use Rattle.pack_plan.proofs.+nodes_for.{statement}
 use Rattle.pack_plan.proofs.+nodes_for.Tie.{close}
 

@@ -1,9 +1,9 @@
 -- `handed` meets its contract, field by field. Assumes nothing.
 use mathlib.Core.Path.{refl}
 use borrow.Author.Needs.{needs}
 use Rattle.model.specs.Sound.{rowsFor, rootFor}
-use Rattle.model.proofs.handed.Statement.{statement}
-use Rattle.model.proofs.handed.Tie as tie
+use Rattle.model_code.proofs.handed.Statement.{statement}
+use Rattle.model_code.proofs.handed.Tie as tie
 
 returns : tie.Need-returns
 unfolding rowsFor rootFor

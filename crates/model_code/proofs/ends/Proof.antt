@@ -1,10 +1,10 @@
 -- `ends` meets its contract, bound by bound. Assumes nothing.
 use mathlib.Core.Path.{sym, ap}
 use borrow.Author.Needs.{needs}
 use Rattle.model.specs.declared.Bound.{Bound}
 use Rattle.model.specs.Look as look
-use Rattle.model.proofs.ends.Statement.{statement}
-use Rattle.model.proofs.ends.Tie as tie
+use Rattle.model_code.proofs.ends.Statement.{statement}
+use Rattle.model_code.proofs.ends.Tie as tie
 
 returns-2 : tie.Need-returns-2
 returns-2 c = let a = c .before .before .before .args in sym (ap (λ (b : Bound). look.ends b (a .key)) (c .before .end .given .1))
