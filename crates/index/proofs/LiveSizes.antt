@@ -4,9 +4,8 @@ use mathlib.Core.List.{List, [], _∷_, map}
 use Prim.Native.Nat.{ℕ, _+_, _≤_}
 use lib.ListN.{length}
 use native.Mathlib.Omega.{arith}
-use Rattle.model.specs.declared.Entry.{Entry}
 use Rattle.model.specs.declared.Totals.{Totals}
-use Rattle.model.specs.Answer.{refused, done}
+use Rattle.model.specs.Answer.{done}
 use Rattle.model.specs.Lists.{none, one}
 use Rattle.model.specs.Tree.{adds, sumOf}
 use Rattle.model.specs.Plain.{plainList}
