@@ -11,7 +11,7 @@ use lib.Seq.{getD-set-same, getD-set-other, set-getD, set-set, take-length, drop
 use Rattle.model.specs.declared.Settings.{Settings}
 use Rattle.slots_raw.specs.declared.Row.{Row}
 use Rattle.slots_raw.specs.Over.{over, part}
-use Rattle.slots_raw.specs.Slots.{blank, chunks, width, headLen, Raw, rawOf, slots, rawAt}
+use Rattle.slots_raw.specs.Slots.{blank, chunks, width, headLen, Raw, rawOf, slotOf, slots, rawAt}
 use Rattle.slots_write.specs.Puts.{putCells, putHead}
 use Rattle.slots_write.specs.Contracts.{SlotsPut}
 use Rattle.slots.specs.Nodes.{Node, unused, nodeOf, nodes, nth, rowsAt, putRows, putKind, pad, rawFor, Canon, Held, putIn, without, put2, withRows}
@@ -26,7 +26,7 @@ pub length-slots : (st : Settings) (W : List ℕ) → length (slots st W) ≡ st
 unfolding slots
 length-slots st W =
     let cs = chunks (width (st .rows)) (st .nodes) (drop headLen W) in
-    length-map cs (rawOf (st .rows)) ∙ length-chunks (width (st .rows)) (st .nodes) (drop headLen W)
+    length-map cs (slotOf st) ∙ length-chunks (width (st .rows)) (st .nodes) (drop headLen W)
 
 pub length-nodes : (st : Settings) (W : List ℕ) → length (nodes st W) ≡ st .nodes
 unfolding nodes

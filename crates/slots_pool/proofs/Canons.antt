@@ -8,7 +8,7 @@ use mathlib.Core.List.{List, [], _∷_, _++_}
 use lib.ListN.{length, take, drop, getD, replicate, take-append-drop, length-map, List·getD-map, List·getD-eq-default}
 use lib.Seq.{length-take-le}
 use Rattle.model.specs.declared.Settings.{Settings}
-use Rattle.slots_raw.specs.Slots.{chunks, rowOf, rowsOf, blank, width, headLen, slotHead, rowLen, Raw, rawOf, slots, rawAt}
+use Rattle.slots_raw.specs.Slots.{chunks, rowOf, rowsOf, blank, width, headLen, slotHead, rowLen, Raw, rawOf, seen, slotOf, slots, rawAt}
 use Rattle.slots_raw.specs.Contracts.{Shape}
 use Rattle.slots.specs.Nodes.{unused, nodeOf, nodes, nth, pad, rawFor, Canon, Held}
 use Rattle.slots_raw.proofs.Chunks.{length-chunks}
@@ -19,10 +19,10 @@ use Rattle.slots.proofs.Nodes.{length-slots, node-raw, node-back, canon-for}
 
 -- every slot has room for as many rows as the settings say
 pub length-cells : (st : Settings) (W : List ℕ) (s : ℕ) → length (rawAt st W s .cells) ≡ st .rows
-unfolding rawAt slots rawOf rowsOf
+unfolding rawAt slots rawOf rowsOf seen
 length-cells st W s =
     let cs = chunks (width (st .rows)) (st .nodes) (drop headLen W) in
-    ap (λ (r : Raw). length (r .cells)) (List·getD-map (rawOf (st .rows)) cs s [])
+    ap (λ (r : Raw). length (r .cells)) (List·getD-map (slotOf st) cs s [])
     ∙ length-map (chunks rowLen (st .rows) (drop slotHead (getD cs s []))) rowOf ∙ length-chunks rowLen (st .rows) (drop slotHead (getD cs s []))
 
 -- a slot whose rows fit, and are blank past its count

@@ -30,12 +30,12 @@ nth-unused (suc n) (suc s) = nth-unused n s
 fit-unused : (m n : ℕ) → Fit m (replicate n unused)
 fit-unused m n s h = rw (nth-unused n s) (omega arith)
 
-image-unused : (m n : ℕ) → image m (replicate n unused) ≡ replicate (n * width m) 0
+image-unused : (root m n : ℕ) → image root m (replicate n unused) ≡ replicate (n * width m) 0
 unfolding image
-image-unused m zero = ap (λ (j : ℕ). replicate j 0) (sym (zero-mul (width m)))
-image-unused m (suc n) =
+image-unused root m zero = ap (λ (j : ℕ). replicate j 0) (sym (zero-mul (width m)))
+image-unused root m (suc n) =
     let e : width m + n * width m ≡ suc n * width m = omega (arith, suc-mul n (width m)) in
-    rw (block-unused m, image-unused m n) (replicate-append-replicate (width m) (n * width m) 0 ∙ ap (λ (j : ℕ). replicate j 0) e)
+    rw (block-unused root m, image-unused root m n) (replicate-append-replicate (width m) (n * width m) 0 ∙ ap (λ (j : ℕ). replicate j 0) e)
 
 -- ---- the words of a new pool
 
@@ -56,16 +56,16 @@ cleared-all W n e =
 
 -- cleared, and with a header: every slot is unused
 pub blank-words : (given : PoolSettings) (W₀ W₁ W₂ : List ℕ) (n : ℕ) → Shape (handed given) W₀ → n ≡ length W₀ → W₁ ≡ cleared W₀ 0 n → W₂ ≡ headerOf given ++ drop headLen W₁
-    → W₂ ≡ headerOf given ++ image (handed given .rows) (replicate (given .nodes) unused)
+    → W₂ ≡ headerOf given ++ image (handed given .root) (handed given .rows) (replicate (given .nodes) unused)
 blank-words given W₀ W₁ W₂ n sh all clear head =
     let st : Settings = handed given in
     let e : n - headLen ≡ st .nodes * width (st .rows) = omega (arith, sh .size) in
     head ∙ ap (λ (l : List ℕ). headerOf given ++ drop headLen l) (clear ∙ cleared-all W₀ n all)
     ∙ ap (headerOf given ++_)
-    (drop-replicate {A = ℕ} 0 headLen n (omega (arith, sh .size)) ∙ ap (λ (j : ℕ). replicate j 0) e ∙ sym (image-unused (st .rows) (st .nodes)))
+    (drop-replicate {A = ℕ} 0 headLen n (omega (arith, sh .size)) ∙ ap (λ (j : ℕ). replicate j 0) e ∙ sym (image-unused (st .root) (st .rows) (st .nodes)))
 
 module _ (given : PoolSettings) (W : List ℕ) (limits : InLimits (handed given))
-    (blank : W ≡ headerOf given ++ image (handed given .rows) (replicate (given .nodes) unused)) where
+    (blank : W ≡ headerOf given ++ image (handed given .root) (handed given .rows) (replicate (given .nodes) unused)) where
   abbrev st : Settings
   st = handed given
 
@@ -78,15 +78,15 @@ module _ (given : PoolSettings) (W : List ℕ) (limits : InLimits (handed given)
   blank-held = blank-nodes .0
 
   -- and then a leaf in the root's slot, which is slot 0
-  pub new-words : (X : List ℕ) → NodesPut st W X (putKind (nodes st W) (st .root) leafKind) → X ≡ headerOf given ++ image (st .rows) (newNodes (st .nodes))
+  pub new-words : (X : List ℕ) → NodesPut st W X (putKind (nodes st W) (st .root) leafKind) → X ≡ headerOf given ++ image (st .root) (st .rows) (newNodes (st .nodes))
   unfolding putKind rootFor
   new-words X now =
       let e : st .nodes ≡ suc (st .nodes - 1) = omega (arith, limits .many) in
       let is : nodes st X ≡ newNodes (st .nodes) =
       now .is ∙ ap (λ (ns : List Node). putKind ns 0 leafKind) (blank-nodes .1) ∙ ap (λ (m : ℕ). putKind (replicate m unused) 0 leafKind) e in
       sym (image-of st X (now .held))
-      ∙ ap (_++ image (st .rows) (nodes st X)) (now .header ∙ ap headIn blank)
-      ∙ ap (λ (ns : List Node). headerOf given ++ image (st .rows) ns) is
+      ∙ ap (_++ image (st .root) (st .rows) (nodes st X)) (now .header ∙ ap headIn blank)
+      ∙ ap (λ (ns : List Node). headerOf given ++ image (st .root) (st .rows) ns) is
 
 -- ---- a new pool is in m, with these nodes
 
@@ -95,8 +95,8 @@ fit-new m n zero h = omega arith
 fit-new m n (suc s) h = rw (nth-unused (n - 1) s) (omega arith)
 
 pub new-nodes : (given : PoolSettings) → let st = handed given in InLimits st
-    → Held st (headerOf given ++ image (st .rows) (newNodes (st .nodes)))
-    × (nodes st (headerOf given ++ image (st .rows) (newNodes (st .nodes))) ≡ newNodes (st .nodes))
+    → Held st (headerOf given ++ image (st .root) (st .rows) (newNodes (st .nodes)))
+    × (nodes st (headerOf given ++ image (st .root) (st .rows) (newNodes (st .nodes))) ≡ newNodes (st .nodes))
 new-nodes given limits =
     let st : Settings = handed given in
     image-nodes given (newNodes (st .nodes)) limits (omega (arith, length-replicate (st .nodes - 1) unused, limits .many)) (fit-new (st .rows) (st .nodes))

@@ -13,10 +13,11 @@ use Rattle.model.specs.declared.Settings.{Settings}
 use Rattle.model.specs.Sound.{handed, InLimits}
 use Rattle.model.proofs.Layers.{handed-roomy, handed-most}
 use Rattle.slots_raw.specs.declared.Row.{Row}
-use Rattle.slots_raw.specs.Slots.{chunks, rowsOf, width, headLen, rowLen, headIn, Raw, rawOf, slots, rawAt}
+use Rattle.slots_raw.specs.Slots.{chunks, rowsOf, width, headLen, rowLen, headIn, Raw, rawOf, seen, viewed, slotOf, slots, rawAt}
 use Rattle.slots.specs.Nodes.{Node, unused, nodeOf, nodes, nth, pad, rawFor, Canon, Held}
 use Rattle.slots_pool.specs.Header.{headerOf}
 use Rattle.slots_pool.specs.Image.{flatRows, block, image}
+use Rattle.slots_raw.proofs.Views.{seen-back}
 use Rattle.slots.proofs.Pads.{length-pad}
 use Rattle.slots.proofs.Nodes.{node-back, canon-for}
 use Rattle.slots_pool.proofs.Canons.{raw-empty, held-each}
@@ -37,33 +38,38 @@ block-back m [] e = absurd (omega arith)
 block-back m (x ∷ []) e = absurd (omega arith)
 block-back m (x ∷ y ∷ b) e = ap (λ (r : List ℕ). x ∷ y ∷ r) (flat-rows (m) b (omega arith))
 
-image-chunks : (m n : ℕ) (l : List ℕ) → length l ≡ n * width m
-    → ((s : ℕ) → Canon m (getD (map (rawOf m) (chunks (width m) n l)) s (rawOf m [])))
-    → image m (map nodeOf (map (rawOf m) (chunks (width m) n l))) ≡ l
+-- seen twice, a slot is as it was
+pub viewed-back : (root : ℕ) (r : Raw) → viewed root (viewed root r) ≡ r
+viewed-back root r = ap (λ (k : ℕ). record { kind = k; count = r .count; cells = r .cells }) (seen-back root (r .kind))
+
+image-chunks : (st : Settings) (n : ℕ) (l : List ℕ) → let m = st .rows in length l ≡ n * width m
+    → ((s : ℕ) → Canon m (getD (map (slotOf st) (chunks (width m) n l)) s (rawOf m [])))
+    → image (st .root) m (map nodeOf (map (slotOf st) (chunks (width m) n l))) ≡ l
 unfolding image chunks
-image-chunks m zero l e h = sym (nil-of-length l (e ∙ zero-mul (width m)))
-image-chunks m (suc n) l e h =
+image-chunks st zero l e h = sym (nil-of-length l (e ∙ zero-mul (width (st .rows))))
+image-chunks st (suc n) l e h =
+    let m = st .rows in
     let S = width m in
     let b = take S l in
-    let long : width m ≤ length l = omega (arith, suc-mul n (width m)) in
-    let first : block (rawFor m (nodeOf (rawOf m (take (width m) l)))) ≡ take (width m) l =
-    ap block (sym (h zero .same)) ∙ block-back m b (length-take-le S l long) in
-    let rest : image m (map nodeOf (map (rawOf m) (chunks (width m) n (drop (width m) l)))) ≡ drop (width m) l =
-    image-chunks m n (drop S l) (length-drop S l ∙ omega (arith, suc-mul n (width m))) (λ s. h (suc s)) in
+    let long : width (st .rows) ≤ length l = omega (arith, suc-mul n (width (st .rows))) in
+    let first : block (viewed (st .root) (rawFor m (nodeOf (slotOf st (take (width m) l))))) ≡ take (width m) l =
+    ap (λ (r : Raw). block (viewed (st .root) r)) (sym (h zero .same)) ∙ ap block (viewed-back (st .root) (rawOf m b)) ∙ block-back m b (length-take-le S l long) in
+    let rest : image (st .root) m (map nodeOf (map (slotOf st) (chunks (width m) n (drop (width m) l)))) ≡ drop (width m) l =
+    image-chunks st n (drop S l) (length-drop S l ∙ omega (arith, suc-mul n (width (st .rows)))) (λ s. h (suc s)) in
     rw (first, rest, take-append-drop)
 
 -- the words are the header and the image of the nodes
-pub image-of : (st : Settings) (W : List ℕ) → Held st W → headIn W ++ image (st .rows) (nodes st W) ≡ W
+pub image-of : (st : Settings) (W : List ℕ) → Held st W → headIn W ++ image (st .root) (st .rows) (nodes st W) ≡ W
 unfolding nodes slots rawAt
 image-of st W h =
     let size : length W ≡ headLen + st .nodes * width (st .rows) = h .shape .size in
-    ap (headIn W ++_) (image-chunks (st .rows) (st .nodes) (drop headLen W) (length-drop headLen W ∙ omega arith) (h .each)) ∙ take-append-drop headLen W
+    ap (headIn W ++_) (image-chunks st (st .nodes) (drop headLen W) (length-drop headLen W ∙ omega arith) (h .each)) ∙ take-append-drop headLen W
 
 -- two pools with one header and the same nodes have the same words
 pub words-same : (st : Settings) (W X : List ℕ) → Held st W → Held st X → headIn W ≡ headIn X → nodes st W ≡ nodes st X → W ≡ X
 words-same st W X h g e n =
     sym (image-of st W h)
-    ∙ ap (λ (l : List ℕ). l ++ image (st .rows) (nodes st W)) e ∙ ap (λ (ns : List Node). headIn X ++ image (st .rows) ns) n ∙ image-of st X g
+    ∙ ap (λ (l : List ℕ). l ++ image (st .root) (st .rows) (nodes st W)) e ∙ ap (λ (ns : List Node). headIn X ++ image (st .root) (st .rows) ns) n ∙ image-of st X g
 
 -- ---- nodes, words, and the same nodes
 
@@ -77,19 +83,19 @@ unfolding flatRows rowsOf chunks
 rows-back [] = refl
 rows-back (r ∷ l) = ap (r ∷_) (rows-back l)
 
-module _ (m : ℕ) (n : Node) (fits : length (n .rows) ≤ m) where
-  pub length-block : length (block (rawFor m n)) ≡ width m
+module _ (root m : ℕ) (n : Node) (fits : length (n .rows) ≤ m) where
+  pub length-block : length (block (viewed root (rawFor m n))) ≡ width m
   unfolding block rawFor
   length-block = omega (arith, length-flat (pad (m) (n .rows)), length-pad (m) (n .rows) fits)
 
   -- the slot of a node is read as it was written
-  pub raw-back : rawOf m (block (rawFor m n)) ≡ rawFor m n
+  pub raw-back : viewed root (rawOf m (block (viewed root (rawFor m n)))) ≡ rawFor m n
   unfolding block rawFor rawOf
   raw-back =
       let l = pad (m) (n .rows) in
       let cells : rowsOf (m) (flatRows l) ≡ l =
       ap (λ (m : ℕ). rowsOf m (flatRows l)) (sym (length-pad (m) (n .rows) fits)) ∙ rows-back l in
-      λ j. record { kind = n .kind; count = length (n .rows); cells = cells j }
+      λ j. record { kind = seen-back root (n .kind) j; count = length (n .rows); cells = cells j }
 
 -- each node has at most m rows
 abbrev pub Fit : ℕ → List Node → Type 0
@@ -101,55 +107,57 @@ fit-head m n ns f = f zero (omega arith)
 fit-tail : (m : ℕ) (n : Node) (ns : List Node) → Fit m (n ∷ ns) → Fit m ns
 fit-tail m n ns f s h = f (suc s) (omega arith)
 
-length-image : (m : ℕ) (ns : List Node) → Fit m ns → length (image m ns) ≡ length ns * width m
+length-image : (root m : ℕ) (ns : List Node) → Fit m ns → length (image root m ns) ≡ length ns * width m
 unfolding image
-length-image m [] f = omega arith
-length-image m (n ∷ ns) f =
-    length-append (block (rawFor m n)) (image m ns)
-    ∙ omega (arith, length-block m n (fit-head m n ns f), length-image m ns (fit-tail m n ns f), suc-mul (length ns) (width m))
+length-image root m [] f = omega arith
+length-image root m (n ∷ ns) f =
+    length-append (block (viewed root (rawFor m n))) (image root m ns)
+    ∙ omega (arith, length-block root m n (fit-head m n ns f), length-image root m ns (fit-tail m n ns f), suc-mul (length ns) (width m))
 
-image-slots : (m : ℕ) (ns : List Node) → Fit m ns → map (rawOf m) (chunks (width m) (length ns) (image m ns)) ≡ map (rawFor m) ns
+image-slots : (st : Settings) (ns : List Node) → let m = st .rows in Fit m ns
+    → map (slotOf st) (chunks (width m) (length ns) (image (st .root) m ns)) ≡ map (rawFor m) ns
 unfolding image chunks
-image-slots m [] f = refl
-image-slots m (n ∷ ns) f =
+image-slots st [] f = refl
+image-slots st (n ∷ ns) f =
+    let m = st .rows in
     let S = width m in
-    let b = block (rawFor m n) in
+    let b = block (viewed (st .root) (rawFor m n)) in
     let one = fit-head m n ns f in
-    let first : take S (b ++ image m ns) ≡ b = take-at b (image m ns) S (length-block m n one) in
-    let rest : drop S (b ++ image m ns) ≡ image m ns = drop-at b (image m ns) S (length-block m n one) in
-    rw (first, rest, raw-back m n one, image-slots m ns (fit-tail m n ns f))
+    let first : take S (b ++ image (st .root) m ns) ≡ b = take-at b (image (st .root) m ns) S (length-block (st .root) m n one) in
+    let rest : drop S (b ++ image (st .root) m ns) ≡ image (st .root) m ns = drop-at b (image (st .root) m ns) S (length-block (st .root) m n one) in
+    rw (first, rest, raw-back (st .root) m n one, image-slots st ns (fit-tail m n ns f))
 
 nodes-back : (m : ℕ) (ns : List Node) → map nodeOf (map (rawFor m) ns) ≡ ns
 nodes-back m [] = refl
 nodes-back m (n ∷ ns) = rw (node-back m n, nodes-back m ns)
 
 module _ (st : Settings) (H : List ℕ) (ns : List Node) (limits : InLimits st) (roomy : 2 * st .order ≤ st .rows) (most : st .rows ≤ 64) (four : length H ≡ headLen) (all : length ns ≡ st .nodes) (fit : Fit (st .rows) ns) where
-  slots-of : slots st (H ++ image (st .rows) ns) ≡ map (rawFor (st .rows)) ns
+  slots-of : slots st (H ++ image (st .root) (st .rows) ns) ≡ map (rawFor (st .rows)) ns
   unfolding slots
   slots-of =
-      ap (λ (l : List ℕ). map (rawOf (st .rows)) (chunks (width (st .rows)) (st .nodes) l)) (drop-at H (image (st .rows) ns) headLen four)
-      ∙ ap (λ (m : ℕ). map (rawOf (st .rows)) (chunks (width (st .rows)) m (image (st .rows) ns))) (sym all) ∙ image-slots (st .rows) ns fit
+      ap (λ (l : List ℕ). map (slotOf st) (chunks (width (st .rows)) (st .nodes) l)) (drop-at H (image (st .root) (st .rows) ns) headLen four)
+      ∙ ap (λ (m : ℕ). map (slotOf st) (chunks (width (st .rows)) m (image (st .root) (st .rows) ns))) (sym all) ∙ image-slots st ns fit
 
-  raw-of : (s : ℕ) → rawAt st (H ++ image (st .rows) ns) s ≡ rawFor (st .rows) (nth ns s)
+  raw-of : (s : ℕ) → rawAt st (H ++ image (st .root) (st .rows) ns) s ≡ rawFor (st .rows) (nth ns s)
   unfolding rawAt
   raw-of s =
       ap (λ (l : List Raw). getD l s (rawOf (st .rows) [])) slots-of
       ∙ ap (getD (map (rawFor (st .rows)) ns) s) (raw-empty (st .rows)) ∙ List·getD-map (rawFor (st .rows)) ns s unused
 
   -- as many words as a header has, and the image of some nodes, are a pool in m that holds them
-  pub image-held : Held st (H ++ image (st .rows) ns)
+  pub image-held : Held st (H ++ image (st .root) (st .rows) ns)
   image-held =
-      held-each st (H ++ image (st .rows) ns)
-      (record { limits = limits; roomy = roomy; most = most; size = length-append H (image (st .rows) ns) ∙ omega (arith, length-image (st .rows) ns fit, ap (_* width (st .rows)) all) })
+      held-each st (H ++ image (st .root) (st .rows) ns)
+      (record { limits = limits; roomy = roomy; most = most; size = length-append H (image (st .root) (st .rows) ns) ∙ omega (arith, length-image (st .root) (st .rows) ns fit, ap (_* width (st .rows)) all) })
       (λ s h. rw (raw-of s) (canon-for (st .rows) (nth ns s) (fit s (omega arith))))
 
-  pub image-is : nodes st (H ++ image (st .rows) ns) ≡ ns
+  pub image-is : nodes st (H ++ image (st .root) (st .rows) ns) ≡ ns
   unfolding nodes
   image-is = ap (map nodeOf) slots-of ∙ nodes-back (st .rows) ns
 
 -- a header and the image of some nodes
 pub image-nodes : (given : PoolSettings) (ns : List Node) → let st = handed given in InLimits st → length ns ≡ st .nodes → Fit (st .rows) ns
-    → Held st (headerOf given ++ image (st .rows) ns) × (nodes st (headerOf given ++ image (st .rows) ns) ≡ ns)
+    → Held st (headerOf given ++ image (st .root) (st .rows) ns) × (nodes st (headerOf given ++ image (st .root) (st .rows) ns) ≡ ns)
 image-nodes given ns limits all fit =
     let st : Settings = handed given in
     let roomy : 2 * st .order ≤ st .rows = handed-roomy given in

@@ -13,7 +13,7 @@ use Rattle.model.specs.declared.Settings.{Settings}
 use Rattle.model.proofs.Lists.{both-left, both-right}
 use Rattle.slots_raw.specs.Over.{part}
 use Rattle.model.specs.Answer.{Tells}
-use Rattle.slots_raw.specs.Slots.{rowsOf, blank, width, slotHead, rowLen, rawOf, rawAt}
+use Rattle.slots_raw.specs.Slots.{rowsOf, blank, width, slotHead, rowLen, Raw, rawOf, seen, viewed, slotOf, rawAt}
 use Rattle.slots_raw.specs.Contracts.{Shape, Based}
 use Rattle.slots.specs.Nodes.{unused, pad, rawFor}
 use Rattle.slots_pool.specs.Image.{flatRows, block}
@@ -21,7 +21,7 @@ use Rattle.slots_raw.proofs.Over.{length-part}
 use Rattle.slots_raw.proofs.Raws.{zero-rows, rows-part, raw-words}
 use Rattle.slots.proofs.Pads.{last-part}
 use Rattle.slots_pool.proofs.Canons.{length-cells}
-use Rattle.slots_pool.proofs.Images.{flat-rows, block-back, raw-back}
+use Rattle.slots_pool.proofs.Images.{flat-rows, block-back, raw-back, viewed-back}
 
 -- ---- zero words
 
@@ -52,14 +52,14 @@ flat-blank (suc n) =
     let e : suc n * rowLen ≡ suc (suc (suc (n * rowLen))) = omega arith in
     rw e (ap (λ (l : List ℕ). 0 ∷ 0 ∷ 0 ∷ l) (flat-blank n))
 
-pub block-unused : (m : ℕ) → block (rawFor m unused) ≡ replicate (width m) 0
-unfolding block rawFor pad
-block-unused m =
+pub block-unused : (root m : ℕ) → block (viewed root (rawFor m unused)) ≡ replicate (width m) 0
+unfolding block rawFor pad seen
+block-unused root m =
     let e : width m ≡ suc (suc (m * rowLen)) = omega arith in
     rw e (ap (λ (l : List ℕ). 0 ∷ 0 ∷ l) (ap (λ (n : ℕ). flatRows (replicate n blank)) (sub-zero (m)) ∙ flat-blank (m)))
 
-raw-zeros : (m : ℕ) → rawOf m (replicate (width m) 0) ≡ rawFor m unused
-raw-zeros m = ap (rawOf m) (sym (block-unused m)) ∙ raw-back m unused (omega arith)
+raw-zeros : (st : Settings) → slotOf st (replicate (width (st .rows)) 0) ≡ rawFor (st .rows) unused
+raw-zeros st = ap (slotOf st) (sym (block-unused (st .root) (st .rows))) ∙ raw-back (st .root) (st .rows) unused (omega arith)
 
 -- ---- the two tests
 
@@ -83,6 +83,7 @@ module _ (st : Settings) (W : List ℕ) (s b : ℕ) (sh : Shape st W) (h : s < s
       let m = st .rows in
       let l = part W b (width m) in
       let size : length l ≡ width m = length-part W b (width m) (at .inside) in
-      let raw : rawAt st W s ≡ rawOf m l = raw-words st W s sh h b (at .start) in
-      tells l (width m) size (λ z. raw ∙ ap (rawOf m) z ∙ raw-zeros m)
-      (λ a. sym (block-back m l size) ∙ ap block (sym raw ∙ a) ∙ block-unused m)
+      let raw : rawAt st W s ≡ slotOf st l = raw-words st W s sh h b (at .start) in
+      tells l (width m) size (λ z. raw ∙ ap (slotOf st) z ∙ raw-zeros st)
+      (λ a. sym (block-back m l size) ∙ ap block (sym (viewed-back (st .root) (rawOf m l)))
+      ∙ ap (λ (r : Raw). block (viewed (st .root) r)) (sym raw ∙ a) ∙ block-unused (st .root) m)

@@ -3,7 +3,7 @@ use Prim.Native.Nat.{ℕ, _-_}
 use mathlib.Core.List.{List, [], _∷_, _++_}
 use lib.ListN.{replicate}
 use Rattle.slots_raw.specs.declared.Row.{Row}
-use Rattle.slots_raw.specs.Slots.{Raw}
+use Rattle.slots_raw.specs.Slots.{Raw, viewed}
 use Rattle.slots.specs.Nodes.{Node, leafKind, unused, rawFor}
 
 -- the words of some rows
@@ -15,10 +15,10 @@ flatRows (r ∷ l) = r .key ∷ r .body ∷ r .size ∷ flatRows l
 unfoldable pub block : Raw → List ℕ
 block r = r .kind ∷ r .count ∷ flatRows (r .cells)
 
--- the words of some nodes, slot after slot, each with room for m rows
-unfoldable pub image : ℕ → List Node → List ℕ
-image m [] = []
-image m (n ∷ ns) = block (rawFor m n) ++ image m ns
+-- the words of some nodes, slot after slot, each with room for m rows. The nodes are those that the tree with its root in slot `root` sees.
+unfoldable pub image : ℕ → ℕ → List Node → List ℕ
+image root m [] = []
+image root m (n ∷ ns) = block (viewed root (rawFor m n)) ++ image root m ns
 
 -- the n nodes of a pool that was just opened: an empty leaf in slot 0, and every other slot unused
 abbrev pub newNodes : ℕ → List Node

@@ -18,7 +18,7 @@ use slots::set_kind;
 // bytes held before is left.
 pub fn open_pool(pool: &mut [u8], given: PoolSettings)
     requires { ⌜ Shape (handed given) (words (now pool)) ⌝ }
-    ensures { λ _. ⌜ words (now (pool .exit)) ≡ headerOf given ++ image (handed given .rows) (newNodes (given .nodes)) ⌝ }
+    ensures { λ _. ⌜ words (now (pool .exit)) ≡ headerOf given ++ image (handed given .root) (handed given .rows) (newNodes (given .nodes)) ⌝ }
 {
     let n = pool.len() / 8;
     words_runs::clear(pool, 0, n);

@@ -9,7 +9,7 @@ use lib.Seq.{getD-drop, getD-take}
 use Rattle.model.specs.declared.Settings.{Settings}
 use Rattle.slots_raw.specs.declared.Row.{Row}
 use Rattle.slots_raw.specs.Over.{part}
-use Rattle.slots_raw.specs.Slots.{chunks, rowOf, rowsOf, blank, Raw, rawOf, width, headLen, slotHead, rowLen, slots, rawAt}
+use Rattle.slots_raw.specs.Slots.{chunks, rowOf, rowsOf, blank, Raw, rawOf, seen, slotOf, width, headLen, slotHead, rowLen, slots, rawAt}
 use Rattle.slots_raw.specs.Contracts.{Shape, Based}
 use Rattle.slots_raw.proofs.Over.{length-part, getD-part, part-inside, part-drop, map-part}
 use Rattle.slots_raw.proofs.Chunks.{chunks-part, getD-chunks, piece-room}
@@ -59,15 +59,15 @@ module _ (st : Settings) (W : List ℕ) (s : ℕ) (sh : Shape st W) (h : s < st 
   pub length-block : length block ≡ width (st .rows)
   length-block = ap length block-part ∙ length-part (drop headLen W) (s * width (st .rows)) (width (st .rows)) room
 
-  pub raw-block : rawAt st W s ≡ rawOf (st .rows) block
-  unfolding rawAt slots block
-  raw-block = List·getD-map (rawOf (st .rows)) (chunks (width (st .rows)) (st .nodes) (drop headLen W)) s []
+  pub raw-block : rawAt st W s ≡ slotOf st block
+  unfolding rawAt slots block rawOf seen
+  raw-block = List·getD-map (slotOf st) (chunks (width (st .rows)) (st .nodes) (drop headLen W)) s []
 
   -- the slot is what its words spell
-  pub raw-words : (b : ℕ) → b ≡ headLen + s * width (st .rows) → rawAt st W s ≡ rawOf (st .rows) (part W b (width (st .rows)))
+  pub raw-words : (b : ℕ) → b ≡ headLen + s * width (st .rows) → rawAt st W s ≡ slotOf st (part W b (width (st .rows)))
   raw-words b e =
       let S = width (st .rows) in
-      raw-block ∙ ap (rawOf (st .rows)) (block-part ∙ sym (part-drop W headLen (s * S) S) ∙ ap (λ (j : ℕ). part W j S) (sym e))
+      raw-block ∙ ap (slotOf st) (block-part ∙ sym (part-drop W headLen (s * S) S) ∙ ap (λ (j : ℕ). part W j S) (sym e))
 
   word-at : (o : ℕ) → o < width (st .rows) → getD block o 0 ≡ getD W (headLen + s * width (st .rows) + o) 0
   word-at o k =
@@ -76,11 +76,11 @@ module _ (st : Settings) (W : List ℕ) (s : ℕ) (sh : Shape st W) (h : s < st 
       ap (λ (l : List ℕ). getD l o 0) block-part
       ∙ getD-part (drop headLen W) (s * S) S o 0 k ∙ getD-drop headLen W (s * S + o) 0 ∙ ap (λ (j : ℕ). getD W j 0) p
 
-  pub kind-at : getD W (headLen + s * width (st .rows)) 0 ≡ rawAt st W s .kind
+  pub kind-at : seen (st .root) (getD W (headLen + s * width (st .rows)) 0) ≡ rawAt st W s .kind
   unfolding rawOf
   kind-at =
       let z : headLen + s * width (st .rows) + 0 ≡ headLen + s * width (st .rows) = omega arith in
-      sym (ap (λ (r : Raw). r .kind) raw-block ∙ word-at 0 (omega arith) ∙ ap (λ (j : ℕ). getD W j 0) z)
+      sym (ap (λ (r : Raw). r .kind) raw-block ∙ ap (seen (st .root)) (word-at 0 (omega arith) ∙ ap (λ (j : ℕ). getD W j 0) z))
 
   pub count-at : getD W (headLen + s * width (st .rows) + 1) 0 ≡ rawAt st W s .count
   unfolding rawOf

@@ -1,8 +1,10 @@
 -- The words of a pool as slots: the header, then a slot for each node. A slot is a kind, a count, and the rows that there is room for. Nothing here asks
 -- that a slot makes sense. Assumes nothing.
-use Prim.Native.Nat.{ℕ, zero, suc, _+_, _*_}
+use Prim.Native.Nat.{ℕ, zero, suc, _+_, _-_, _*_}
+use mathlib.Core.Bool.{cond}
 use mathlib.Core.List.{List, [], _∷_, map}
 use lib.ListN.{take, drop, getD}
+use lib.Dec.{ltb}
 use Rattle.model.specs.declared.Settings.{Settings}
 use Rattle.slots_raw.specs.declared.Row.{Row}
 
@@ -55,10 +57,28 @@ rowsOf n l = map rowOf (chunks rowLen n l)
 unfoldable pub rawOf : ℕ → List ℕ → Raw
 rawOf rows b = record { kind = getD b 0 0; count = getD b 1 0; cells = rowsOf rows (drop slotHead b) }
 
+-- ---- kinds
+
+-- Kinds are read and written as the tree sees them to whom the settings belong: its own nodes are of kinds 1 and 2, wherever its root is. Kind k as the
+-- tree with its root in slot `root` sees it: from slot 0 as it is stored; from another slot 1 and 3 have changed places, and 2 and 4. Seen twice, it is
+-- as it was.
+unfoldable pub seen : ℕ → ℕ → ℕ
+seen root zero = 0
+seen zero (suc k) = suc k
+seen (suc root) (suc k) = cond (ltb (suc k) 3) (suc k + 2) (cond (ltb (suc k) 5) (suc k - 2) (suc k))
+
+-- a slot so seen
+abbrev pub viewed : ℕ → Raw → Raw
+viewed root r = record { kind = seen root (r .kind); count = r .count; cells = r .cells }
+
 -- ---- the slots of a pool's words
 
+-- the slot that some words spell
+abbrev pub slotOf : Settings → List ℕ → Raw
+slotOf st b = viewed (st .root) (rawOf (st .rows) b)
+
 unfoldable pub slots : Settings → List ℕ → List Raw
-slots st W = map (rawOf (st .rows)) (chunks (width (st .rows)) (st .nodes) (drop headLen W))
+slots st W = map (slotOf st) (chunks (width (st .rows)) (st .nodes) (drop headLen W))
 
 -- slot s; an unused one past the end
 unfoldable pub rawAt : Settings → List ℕ → ℕ → Raw

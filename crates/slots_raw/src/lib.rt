@@ -31,7 +31,25 @@ pub fn raw_kind(pool: &[u8], st: Settings, s: usize) -> u64
     ensures { λ r. ⌜ r ≡ rawAt st (words (now (pool .entry))) s .kind ⌝ }
 {
     let b = base(pool, st, s);
-    words::get(pool, b)
+    let stored = words::get(pool, b);
+    seen(st.root, stored)
+}
+
+// A kind as the tree with its root in slot `root` sees it: its own nodes are of kinds 1 and 2, and those of a tree with another root of 3 and 4.
+// What was seen so is turned back in the same way.
+pub fn seen(root: usize, kind: u64) -> u64
+    ensures { λ r. ⌜ r ≡ Slots.seen root kind ⌝ }
+{
+    if root == 0 {
+        return kind;
+    }
+    if kind == 0 {
+        return kind;
+    }
+    if kind < 3 {
+        return kind + 2;
+    }
+    if kind < 5 { kind - 2 } else { kind }
 }
 
 // How many rows slot `s` says it holds.

@@ -10,12 +10,13 @@ use Rattle.words.proofs.Laws.{stores, stores-sets}
 use Rattle.model.specs.declared.Settings.{Settings}
 use Rattle.slots_raw.specs.declared.Row.{Row}
 use Rattle.slots_raw.specs.Over.{over, part}
-use Rattle.slots_raw.specs.Slots.{chunks, rowOf, rowsOf, blank, rawOf, width, headLen, slotHead, rowLen, slots, rawAt}
+use Rattle.slots_raw.specs.Slots.{chunks, rowOf, rowsOf, blank, rawOf, seen, viewed, slotOf, width, headLen, slotHead, rowLen, slots, rawAt}
 use Rattle.slots_write.specs.Puts.{withCells, withHead, putCells, putHead}
 use Rattle.slots_raw.specs.Contracts.{Shape, ToTouchCells, Based}
 use Rattle.slots_write.specs.Contracts.{SlotsPut}
 use Rattle.slots_raw.proofs.Over.{length-part, length-over, drop-over, take-over, getD-over, map-over, map-set}
 use Rattle.slots_raw.proofs.Chunks.{chunks-over, piece-over}
+use Rattle.slots_raw.proofs.Views.{seen-back}
 use Rattle.slots_raw.proofs.Raws.{base-of, zero-rows, block, rest, length-block, raw-block, rows-part}
 
 -- words stored one by one are a run replaced
@@ -43,17 +44,17 @@ rows-within rows b i n new e h k =
     ∙ map-over rowOf (chunks rowLen (rows) (drop slotHead b)) i n (chunks rowLen n new) in
     λ j. record { kind = kind j; count = count j; cells = cells j }
 
--- kind and count are replaced
-headed : (rows : ℕ) (b : List ℕ) (k c : ℕ) → rawOf rows (over b 0 slotHead (k ∷ c ∷ [])) ≡ withHead (rawOf rows b) k c
+-- kind and count are replaced, the kind by what the tree sees as it
+headed : (st : Settings) (b : List ℕ) (k c : ℕ) → slotOf st (over b 0 slotHead (seen (st .root) k ∷ c ∷ [])) ≡ withHead (slotOf st b) k c
 unfolding rawOf over
-headed rows b k c = refl
+headed st b k c = ap (λ (j : ℕ). withHead (slotOf st b) j c) (seen-back (st .root) k)
 
 -- ---- slot s of a pool
 
 module _ (st : Settings) (W : List ℕ) (s : ℕ) (sh : Shape st W) (h : s < st .nodes) where
   -- a run of its words is replaced
   block-over : (o n : ℕ) (new : List ℕ) → o + n ≤ width (st .rows) → length new ≡ n
-      → SlotsPut st W (over W (headLen + s * width (st .rows) + o) n new) (set (slots st W) s (rawOf (st .rows) (over (block st W s sh h) o n new)))
+      → SlotsPut st W (over W (headLen + s * width (st .rows) + o) n new) (set (slots st W) s (slotOf st (over (block st W s sh h) o n new)))
   unfolding slots block
   block-over o n new k e =
       let b = base-of st W s sh h in
@@ -63,29 +64,29 @@ module _ (st : Settings) (W : List ℕ) (s : ℕ) (sh : Shape st W) (h : s < st 
       record {
         shape = record { limits = sh .limits; roomy = sh .roomy; most = sh .most; size = length-over W (headLen + s * S + o) n new (omega arith) e ∙ sh .size };
         is = ap (λ (j : ℕ). slots st (over W j n new)) p
-            ∙ ap (λ (l : List ℕ). map (rawOf (st .rows)) (chunks S (st .nodes) l)) (drop-over W headLen (s * S + o) n new long)
-            ∙ ap (map (rawOf (st .rows))) (piece-over S (st .nodes) (drop headLen W) s o n new h (rest st W s sh h) k e)
-            ∙ map-set (rawOf (st .rows)) (chunks S (st .nodes) (drop headLen W)) s (over (block st W s sh h) o n new);
+            ∙ ap (λ (l : List ℕ). map (slotOf st) (chunks S (st .nodes) l)) (drop-over W headLen (s * S + o) n new long)
+            ∙ ap (map (slotOf st)) (piece-over S (st .nodes) (drop headLen W) s o n new h (rest st W s sh h) k e)
+            ∙ map-set (slotOf st) (chunks S (st .nodes) (drop headLen W)) s (over (block st W s sh h) o n new);
         header = ap (λ (j : ℕ). take headLen (over W j n new)) p ∙ take-over W headLen (s * S + o) n new long;
       }
 
   -- ---- what is replaced
 
-  pub head-over : (b k c : ℕ) → b ≡ headLen + s * width (st .rows) → SlotsPut st W (over W b slotHead (k ∷ c ∷ [])) (putHead st W s k c)
+  pub head-over : (b k c : ℕ) → b ≡ headLen + s * width (st .rows) → SlotsPut st W (over W b slotHead (seen (st .root) k ∷ c ∷ [])) (putHead st W s k c)
   head-over b k c eb =
       let z : b ≡ headLen + s * width (st .rows) + 0 = omega arith in
-      rw (z, raw-block st W s sh h) (rw (headed (st .rows) (block st W s sh h) k c) at (block-over 0 slotHead (k ∷ c ∷ []) (omega arith) refl))
+      rw (z, raw-block st W s sh h) (rw (headed st (block st W s sh h) k c) at (block-over 0 slotHead (seen (st .root) k ∷ c ∷ []) (omega arith) refl))
 
   -- n rows from row i on
   pub rows-over : (b i n : ℕ) (new : List ℕ) → b ≡ headLen + s * width (st .rows) → i + n ≤ st .rows → length new ≡ n * rowLen
       → SlotsPut st W (over W (b + (slotHead + i * rowLen)) (n * rowLen) new) (putCells st W s (over (rawAt st W s .cells) i n (rowsOf n new)))
   rows-over b i n new eb g e =
-      rw (eb, raw-block st W s sh h) (rw (rows-within (st .rows) (block st W s sh h) i n new (length-block st W s sh h) g e) at (block-over (slotHead + i * rowLen) (n * rowLen) new (omega arith) e))
+      rw (eb, raw-block st W s sh h) (rw (ap (viewed (st .root)) (rows-within (st .rows) (block st W s sh h) i n new (length-block st W s sh h) g e)) at (block-over (slotHead + i * rowLen) (n * rowLen) new (omega arith) e))
 
   -- ---- what the functions of `words` leave
 
-  pub head-put : (b k c : ℕ) → Based st W s b → SlotsPut st W (set (set W b k) (b + 1) c) (putHead st W s k c)
-  head-put b k c bs = rw (stores-over (c ∷ []) k W b (omega arith)) (head-over b k c (bs .start))
+  pub head-put : (b k c : ℕ) → Based st W s b → SlotsPut st W (set (set W b (seen (st .root) k)) (b + 1) c) (putHead st W s k c)
+  head-put b k c bs = rw (stores-over (c ∷ []) (seen (st .root) k) W b (omega arith)) (head-over b k c (bs .start))
 
   pub row-put : (b i : ℕ) (r : Row) → Based st W s b → i + 1 ≤ st .rows
       → SlotsPut st W (set (set (set W (b + (slotHead + i * rowLen)) (r .key)) (b + (slotHead + i * rowLen) + 1) (r .body)) (b + (slotHead + i * rowLen) + 2) (r .size))

@@ -14,6 +14,7 @@ use slots_raw::HEAD;
 use slots_raw::ROW;
 use slots_raw::Row;
 use slots_raw::base;
+use slots_raw::seen;
 
 // Sets kind and count of slot `s`.
 pub fn raw_head(pool: &mut [u8], st: Settings, s: usize, kind: u64, count: usize)
@@ -21,7 +22,8 @@ pub fn raw_head(pool: &mut [u8], st: Settings, s: usize, kind: u64, count: usize
     ensures { λ _. let W = words (now (pool .entry)) in ⌜ SlotsPut st W (words (now (pool .exit))) (putHead st W s kind count) ⌝ }
 {
     let b = base(pool, st, s);
-    words::put(pool, b, kind);
+    let stored = seen(st.root, kind);
+    words::put(pool, b, stored);
     words::put(pool, b + 1, count as u64);
 }
 

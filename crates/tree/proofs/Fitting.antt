@@ -5,7 +5,8 @@ use Prim.Native.Nat.{ℕ, zero, suc, _+_, _-_, _^_, _≤_, _<_}
 use native.Mathlib.Omega.{arith}
 use lib.ListN.{length, getD, replicate, length-append, length-map}
 use Rattle.slots_raw.specs.declared.Row.{Row}
-use Rattle.slots_raw.specs.Slots.{blank}
+use Rattle.slots_raw.specs.Slots.{blank, seen, viewed}
+use Rattle.slots_raw.proofs.Views.{seen-few}
 use Rattle.slots.specs.Nodes.{nth, pad, rawFor}
 use Rattle.slots.specs.Nodes as S
 use Rattle.slots_pool.specs.Image.{flatRows, block, image}
@@ -37,7 +38,7 @@ pub record RowFits (r : Row) : Type 0 where
   pub size : Word (r .size)
 
 pub record NodeFits (order : ℕ) (n : S.Node) : Type 0 where
-  pub kind : Word (n .kind)
+  pub kind : n .kind ≤ 4
   pub few : length (n .rows) ≤ order
   pub rows : All RowFits (n .rows)
 
@@ -50,16 +51,17 @@ blanks-fit : (n : ℕ) → All RowFits (replicate n blank)
 blanks-fit zero = none
 blanks-fit (suc n) = one {x = blank} (record { key = omega arith; body = omega arith; size = omega arith }) (blanks-fit n)
 
-block-words : (m order : ℕ) (n : S.Node) → order ≤ 32 → NodeFits order n → All Word (block (rawFor m n))
+block-words : (root m order : ℕ) (n : S.Node) → order ≤ 32 → NodeFits order n → All Word (block (viewed root (rawFor m n)))
 unfolding block rawFor pad
-block-words m order n le f =
+block-words root m order n le f =
     let count : Word (length (n .rows)) = omega (arith, f .few) in
-    one (f .kind) (one count (rows-words (all-append (f .rows) (blanks-fit (m - length (n .rows))))))
+    let kind : Word (seen root (n .kind)) = omega (arith, seen-few root (n .kind) (f .kind)) in
+    one kind (one count (rows-words (all-append (f .rows) (blanks-fit (m - length (n .rows))))))
 
-image-words : (m order : ℕ) (ns : List S.Node) → order ≤ 32 → ((s : ℕ) → NodeFits order (nth ns s)) → All Word (image m ns)
+image-words : (root m order : ℕ) (ns : List S.Node) → order ≤ 32 → ((s : ℕ) → NodeFits order (nth ns s)) → All Word (image root m ns)
 unfolding image
-image-words m order [] le f = none
-image-words m order (n ∷ ns) le f = all-append (block-words m order n le (f zero)) (image-words m order ns le (λ s. f (suc s)))
+image-words root m order [] le f = none
+image-words root m order (n ∷ ns) le f = all-append (block-words root m order n le (f zero)) (image-words root m order ns le (λ s. f (suc s)))
 
 word-at : {ws : List ℕ} → All Word ws → (i : ℕ) → getD ws i 0 < 2 ^ 64
 word-at none i = omega arith
@@ -102,13 +104,13 @@ rows-fit st h ps = all-of (rowFor h) (all-map (λ i p. row-fits st h i p) ps)
 abbrev CellFits : Settings → Cell → Type 0
 CellFits st c = NodeFits (st .order) (c .node)
 
-kind-word : (h : ℕ) → Word (kindFor h)
-kind-word zero = omega arith
-kind-word (suc h) = omega arith
+kind-few : (h : ℕ) → kindFor h ≤ 4
+kind-few zero = omega arith
+kind-few (suc h) = omega arith
 
 module _ (st : Settings) where
   node-fits : (h : ℕ) (n : Tree h) → len n ≤ st .order → All (Part st h) (n .items) → NodeFits (st .order) (nodeFor h n)
-  node-fits h n few ps = record { kind = kind-word h; few = omega (arith, length-map (n .items) (rowFor h)); rows = rows-fit st h ps }
+  node-fits h n few ps = record { kind = kind-few h; few = omega (arith, length-map (n .items) (rowFor h)); rows = rows-fit st h ps }
 
   list-fits : (h : ℕ) → ((i : Item h) → Part st h i → All (CellFits st) (cells h i)) → {xs : List (Item h)} → All (Part st h) xs → All (CellFits st) (cellsOf h xs)
   list-fits h f none = none
@@ -145,4 +147,4 @@ image-fits given x s =
     let nodes : Word (given .nodes) = omega (arith, lim .bounded) in
     let order : Word (given .order) = omega (arith, lim .narrow) in
     let minimum : Word (given .minimum) = omega (arith, lim .least, lim .narrow) in
-    word-at (one layout (one nodes (one order (one minimum (image-words (st .rows) (st .order) (nodesOf (st .nodes) x) (lim .narrow) (nodesOf-fit st x s))))))
+    word-at (one layout (one nodes (one order (one minimum (image-words (st .root) (st .rows) (st .order) (nodesOf (st .nodes) x) (lim .narrow) (nodesOf-fit st x s))))))

@@ -67,10 +67,10 @@ new-nodes (suc n) h =
 
 -- a pool of these nodes is its image
 pub new-image : (given : PoolSettings) (l : List ℕ) → InLimits (handed given) → length l ≡ poolLen given → Bytes l
-    → words l ≡ headerOf given ++ image (handed given .rows) (newNodes (given .nodes)) → l ≡ imageOf given (newIndex (given .nodes))
+    → words l ≡ headerOf given ++ image (handed given .root) (handed given .rows) (newNodes (given .nodes)) → l ≡ imageOf given (newIndex (given .nodes))
 new-image given l lim n b e =
     sym (bytesOf-words (headLen + given .nodes * width (handed given .rows)) l n b) ∙ ap bytesOf e
-    ∙ ap (λ (ns : List S.Node). bytesOf (headerOf given ++ image (handed given .rows) ns)) (sym (new-nodes (given .nodes) (omega (arith, lim .many))))
+    ∙ ap (λ (ns : List S.Node). bytesOf (headerOf given ++ image (handed given .root) (handed given .rows) ns)) (sym (new-nodes (given .nodes) (omega (arith, lim .many))))
 
 -- so a pool that was opened is sound
 pub new-pool : (given : PoolSettings) → InLimits (handed given) → SoundPool (imageOf given (newIndex (given .nodes)))

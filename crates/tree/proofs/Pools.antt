@@ -34,8 +34,8 @@ pub held-words : (given : PoolSettings) (x : Index) (W : List ℕ) → let st = 
     → Alone st x → W ≡ wordsOf given x
 held-words given x W h e k s =
     let st : Settings = handed given in
-    sym (image-of st W h) ∙ ap (λ (l : List ℕ). l ++ image (st .rows) (nodes st W)) e
-    ∙ ap (λ (ns : List S.Node). headerOf given ++ image (st .rows) ns) (held-nodesOf st x (nodes st W) (length-nodes st W) k s)
+    sym (image-of st W h) ∙ ap (λ (l : List ℕ). l ++ image (st .root) (st .rows) (nodes st W)) e
+    ∙ ap (λ (ns : List S.Node). headerOf given ++ image (st .root) (st .rows) ns) (held-nodesOf st x (nodes st W) (length-nodes st W) k s)
 
 pub held-bytes : (given : PoolSettings) (x : Index) (W l : List ℕ) → let st = handed given in Held st W → headIn W ≡ headerOf given
     → HoldsIndex (nodes st W) x → Alone st x → words l ≡ W → length l ≡ poolLen given → Bytes l → l ≡ imageOf given x

@@ -35,7 +35,7 @@ nodesOf n x = map (nodeIn (cells (suc (x .height)) (x .root))) (upFrom 0 n)
 
 -- the words of its pool, header and nodes; and the bytes
 abbrev pub wordsOf : PoolSettings → Index → List ℕ
-wordsOf given x = headerOf given ++ image (handed given .rows) (nodesOf (given .nodes) x)
+wordsOf given x = headerOf given ++ image (handed given .root) (handed given .rows) (nodesOf (given .nodes) x)
 
 abbrev pub imageOf : PoolSettings → Index → List ℕ
 imageOf given x = bytesOf (wordsOf given x)

@@ -26,7 +26,7 @@ clear-requires c κs = omega (arith, length-words (c .before .before .args .pool
 blank : (c : tie.After-write-header)
     → let start = c .before .before .before .before .before .before .before in
     let given = start .args .given in
-    words (c .write-header .last .0) ≡ headerOf given ++ image (handed given .rows) (replicate (given .nodes) unused)
+    words (c .write-header .last .0) ≡ headerOf given ++ image (handed given .root) (handed given .rows) (replicate (given .nodes) unused)
 blank c =
     let cleared = c .before .before .before .before in
     let start = cleared .before .before .before in
