@@ -1,5 +1,5 @@
-/* Opens a pool, sets, compares, removes, gets, scans, frames and packs, and prints what each call answered. What it must print:
- * alarm.stdout.
+/* Opens a pool, sets, compares, removes, gets, scans, frames and packs, in both trees, and prints what each call answered. What it must
+ * print: alarm.stdout.
  *
  *     cc -Iinclude link/alarm.c "$(link/archive)" -o target/alarm && target/alarm | diff - link/alarm.stdout
  */
@@ -9,10 +9,13 @@
 #include <string.h>
 
 /* docs/POOL.md has both lengths */
-typedef char the_desk_pool[ALARM_POOL_LEN(16, 4) == 3360 ? 1 : -1];
-typedef char the_largest_pool[ALARM_POOL_LEN(ALARM_NODES_MOST, ALARM_ORDER_MOST) == 25428000 ? 1 : -1];
+typedef char the_desk_pool[ALARM_POOL_LEN(16, 4, 4) == 3392 ? 1 : -1];
+typedef char the_largest_pool[ALARM_POOL_LEN(ALARM_NODES_MOST, ALARM_ORDER_MOST, ALARM_ORDER_MOST) == 25428032 ? 1 : -1];
 
-static uint8_t pool[ALARM_POOL_LEN(16, 4)];
+/* the day shift asks by time, the night shift by pen */
+enum { BY_TIME = 0, BY_PEN = 1 };
+
+static uint8_t pool[ALARM_POOL_LEN(16, 4, 4)];
 static const size_t n = sizeof pool;
 
 static void numbers(const char *call, uint32_t code, const uint64_t *told, size_t len) {
@@ -29,119 +32,165 @@ static void entries(const uint8_t *out, uint64_t len) {
     }
 }
 
-/* the constant is the length that the archive gives, for all settings */
+/* the constant is the length that the archive gives, for all orders and every number of nodes */
 static bool lengths_agree(void) {
     for (uint64_t nodes = ALARM_NODES_LEAST; nodes <= ALARM_NODES_MOST; nodes++)
-        for (uint64_t order = ALARM_ORDER_LEAST; order <= ALARM_ORDER_MOST; order++)
-            if (alarm_pool_len(nodes, order, 1) != ALARM_POOL_LEN(nodes, order))
+        for (uint64_t order = ALARM_ORDER_LEAST; order <= ALARM_ORDER_MOST; order++) {
+            const uint64_t other = ALARM_ORDER_LEAST + nodes % (ALARM_ORDER_MOST - ALARM_ORDER_LEAST + 1);
+            if (alarm_pool_len(nodes, order, 1, other, 1) != ALARM_POOL_LEN(nodes, order, other))
                 return false;
+        }
     return true;
 }
 
-static uint64_t nodes(const uint8_t *of, size_t of_n) {
+static uint64_t nodes(const uint8_t *of, size_t of_n, uint64_t tree) {
     uint8_t line[ALARM_LINE_LEN];
     uint64_t i = 0, len;
-    while (alarm_frame(of, of_n, i, line, sizeof line, &len) == ALARM_DONE)
+    while (alarm_frame(of, of_n, tree, i, line, sizeof line, &len) == ALARM_DONE)
         i++;
     return i;
 }
 
-/* 48 alarms, of which two of four are cleared: leaves that are half empty, packed into a second pool */
+/* 48 alarms, of which two of four are cleared, by time, and every fourth of them by pen: leaves that are half empty, packed into a second
+ * pool */
 static void packing(void) {
-    static uint8_t worn[ALARM_POOL_LEN(32, 4)], before[sizeof worn], fresh[ALARM_POOL_LEN(9, 4)], other[ALARM_POOL_LEN(16, 5)];
+    static uint8_t worn[ALARM_POOL_LEN(40, 4, 5)], before[sizeof worn], fresh[ALARM_POOL_LEN(13, 4, 5)], other[ALARM_POOL_LEN(16, 5, 5)];
+    const size_t worn_n = sizeof worn, fresh_n = sizeof fresh, small_n = ALARM_POOL_LEN(12, 4, 5);
     uint64_t counts[4], totals[3], told[3];
-    alarm_open(worn, sizeof worn, 32, 4, 2);
-    for (uint64_t k = 1; k <= 48; k++)
-        alarm_set(worn, sizeof worn, &k, 1, 256 + k, 16, counts);
+    alarm_open(worn, worn_n, 40, 4, 2, 5, 2);
+    for (uint64_t k = 1; k <= 48; k++) {
+        const uint64_t pen = 1000 - k;
+        alarm_set(worn, worn_n, BY_TIME, &k, 1, 256 + k, 16, counts);
+        if (k % 4 == 0)
+            alarm_set(worn, worn_n, BY_PEN, &pen, 1, 256 + k, 16, counts);
+    }
     for (uint64_t k = 1; k <= 48; k += 4) {
         const uint64_t cleared[2] = {k + 1, k + 2};
-        alarm_remove(worn, sizeof worn, cleared, 2, counts);
+        alarm_remove(worn, worn_n, BY_TIME, cleared, 2, counts);
     }
-    memcpy(before, worn, sizeof worn);
-    numbers("worn", alarm_totals(worn, sizeof worn, totals), totals, 3);
-    printf("  in %" PRIu64 " nodes\n", nodes(worn, sizeof worn));
+    memcpy(before, worn, worn_n);
+    for (uint64_t tree = 0; tree < ALARM_TREES; tree++) {
+        numbers("worn", alarm_totals(worn, worn_n, tree, totals), totals, 3);
+        printf("  in %" PRIu64 " nodes\n", nodes(worn, worn_n, tree));
+    }
 
-    printf("pack %" PRIu32 ", no pool\n", alarm_pack(worn, sizeof worn, other, sizeof other));
-    alarm_open(other, sizeof other, 16, 5, 2);
-    printf("pack %" PRIu32 ", of another order\n", alarm_pack(worn, sizeof worn, other, sizeof other));
-    alarm_open(fresh, sizeof fresh, 9, 4, 1);
-    printf("pack %" PRIu32 ", of another minimum\n", alarm_pack(worn, sizeof worn, fresh, sizeof fresh));
-    printf("pack %" PRIu32 ", not new\n", alarm_pack(worn, sizeof worn, pool, n));
-    alarm_open(fresh, ALARM_POOL_LEN(8, 4), 8, 4, 2);
-    printf("pack %" PRIu32 ", too small by a node\n", alarm_pack(worn, sizeof worn, fresh, ALARM_POOL_LEN(8, 4)));
-    alarm_open(fresh, sizeof fresh, 9, 4, 2);
-    printf("pack %" PRIu32 "\n", alarm_pack(worn, sizeof worn, fresh, sizeof fresh));
-    printf("pack %" PRIu32 ", no longer new\n", alarm_pack(worn, sizeof worn, fresh, sizeof fresh));
-    numbers("packed", alarm_totals(fresh, sizeof fresh, totals), totals, 3);
-    printf("  in %" PRIu64 " nodes\n", nodes(fresh, sizeof fresh));
-    printf("worn %s\n", memcmp(before, worn, sizeof worn) ? "CHANGED" : "as it was");
+    printf("pack %" PRIu32 ", no pool\n", alarm_pack(worn, worn_n, other, sizeof other));
+    alarm_open(other, sizeof other, 16, 5, 2, 5, 2);
+    printf("pack %" PRIu32 ", of another order\n", alarm_pack(worn, worn_n, other, sizeof other));
+    alarm_open(fresh, fresh_n, 13, 4, 2, 5, 3);
+    printf("pack %" PRIu32 ", of another minimum\n", alarm_pack(worn, worn_n, fresh, fresh_n));
+    alarm_open(fresh, fresh_n, 13, 4, 2, 5, 2);
+    const uint64_t one = 1;
+    alarm_set(fresh, fresh_n, BY_PEN, &one, 1, 0, 0, counts);
+    printf("pack %" PRIu32 ", not new\n", alarm_pack(worn, worn_n, fresh, fresh_n));
+    alarm_open(fresh, small_n, 12, 4, 2, 5, 2);
+    printf("pack %" PRIu32 ", too small by a node\n", alarm_pack(worn, worn_n, fresh, small_n));
+    alarm_open(fresh, fresh_n, 13, 4, 2, 5, 2);
+    printf("pack %" PRIu32 "\n", alarm_pack(worn, worn_n, fresh, fresh_n));
+    printf("pack %" PRIu32 ", no longer new\n", alarm_pack(worn, worn_n, fresh, fresh_n));
+    for (uint64_t tree = 0; tree < ALARM_TREES; tree++) {
+        numbers("packed", alarm_totals(fresh, fresh_n, tree, totals), totals, 3);
+        printf("  in %" PRIu64 " nodes\n", nodes(fresh, fresh_n, tree));
+    }
+    printf("worn %s\n", memcmp(before, worn, worn_n) ? "CHANGED" : "as it was");
 
     uint8_t out[3 * ALARM_ENTRY_LEN];
     const struct alarm_range newest = {ALARM_UNBOUNDED, 0, ALARM_UNBOUNDED, 0, true, 0};
-    numbers("scan_range", alarm_scan_range(fresh, sizeof fresh, &newest, out, sizeof out, told), told, 3);
-    entries(out, told[ALARM_WRITTEN]);
+    for (uint64_t tree = 0; tree < ALARM_TREES; tree++) {
+        numbers("scan_range", alarm_scan_range(fresh, fresh_n, tree, &newest, out, sizeof out, told), told, 3);
+        entries(out, told[ALARM_WRITTEN]);
+    }
+}
+
+/* what is done by pen leaves the alarms by time as they were; the two draw on one set of unused nodes; a third tree there is not */
+static void two_trees(void) {
+    static uint8_t small[ALARM_POOL_LEN(8, 4, 6)];
+    const size_t small_n = sizeof small;
+    const uint64_t keys[5] = {1, 2, 3, 4, 5};
+    uint64_t counts[4], totals[3], told[2] = {7, 7}, len = 7;
+    uint8_t line[ALARM_LINE_LEN];
+    alarm_open(small, small_n, 8, 4, 2, 6, 3);
+    for (size_t i = 0; i < 5; i++)
+        alarm_set(small, small_n, BY_TIME, keys + i, 1, 300, 16, counts);
+    numbers("by time", alarm_totals(small, small_n, BY_TIME, totals), totals, 3);
+    numbers("by pen", alarm_set(small, small_n, BY_PEN, keys, 1, 300, 16, counts), counts, 4);
+    numbers("by time", alarm_remove(small, small_n, BY_TIME, keys + 3, 1, counts), counts, 4);
+    numbers("by pen", alarm_set(small, small_n, BY_PEN, keys, 1, 300, 9, counts), counts, 4);
+    numbers("by pen", alarm_totals(small, small_n, BY_PEN, totals), totals, 3);
+    numbers("by time", alarm_totals(small, small_n, BY_TIME, totals), totals, 3);
+    numbers("by time", alarm_set(small, small_n, BY_TIME, keys, 5, 300, 16, counts), counts, 4);
+    numbers("by pen", alarm_remove(small, small_n, BY_PEN, keys, 5, counts), counts, 4);
+    for (uint64_t tree = 0; tree < ALARM_TREES; tree++)
+        if (alarm_frame(small, small_n, tree, 0, line, sizeof line, &len) == ALARM_DONE)
+            printf("%.*s\n", (int)len, (const char *)line);
+    numbers("no tree", alarm_totals(small, small_n, ALARM_TREES, totals), totals, 3);
+    numbers("no tree", alarm_set(small, small_n, UINT64_MAX, keys, 5, 1, 1, counts), counts, 4);
+    numbers("no tree", alarm_get(small, small_n, 2, keys, 5, NULL, 0, told), told, 2);
+    numbers("no tree", alarm_frame(small, small_n, 2, 99, NULL, 0, &len), &len, 1);
+    small[0] = 1; /* the layout of a pool of one tree */
+    numbers("no tree, no pool", alarm_totals(small, small_n, ALARM_TREES, totals), totals, 3);
 }
 
 /* an alarm that is cleared takes no space, whatever its size; a pool whose sum still counts it, as sums did before version 2, is not sound */
 static void clearing(void) {
-    static uint8_t few[ALARM_POOL_LEN(16, 4)];
+    static uint8_t few[ALARM_POOL_LEN(16, 4, 4)];
     uint64_t counts[4], totals[3], told[3];
-    alarm_open(few, sizeof few, 16, 4, 2);
+    alarm_open(few, sizeof few, 16, 4, 2, 4, 2);
     for (uint64_t k = 1; k <= 5; k++)
-        alarm_set(few, sizeof few, &k, 1, 256 + k, 16, counts);
+        alarm_set(few, sizeof few, BY_TIME, &k, 1, 256 + k, 16, counts);
     const uint64_t four = 4;
-    numbers("cleared", alarm_set(few, sizeof few, &four, 1, 0, 100, counts), counts, 4);
-    numbers("totals", alarm_totals(few, sizeof few, totals), totals, 3);
-    numbers("scan", alarm_scan(few, sizeof few, false, false, 0, false, false, 0, false, 50, NULL, 0, told), told, 3);
-    few[8 * 11] = 116; /* the sum of the second leaf, which was 16 */
-    numbers("totals", alarm_totals(few, sizeof few, totals), totals, 3);
+    numbers("cleared", alarm_set(few, sizeof few, BY_TIME, &four, 1, 0, 100, counts), counts, 4);
+    numbers("totals", alarm_totals(few, sizeof few, BY_TIME, totals), totals, 3);
+    numbers("scan", alarm_scan(few, sizeof few, BY_TIME, false, false, 0, false, false, 0, false, 50, NULL, 0, told), told, 3);
+    few[8 * 15] = 116; /* the sum of the second leaf, which was 16 */
+    numbers("totals", alarm_totals(few, sizeof few, BY_TIME, totals), totals, 3);
 }
 
 /* a slice of no elements may be NULL, in every call that takes one */
 static void without_elements(void) {
     uint64_t counts[4], told[3], head[2], wide[32] = {0}, keys[32] = {0}, len = 0, totals[3] = {7, 7, 7};
     uint32_t narrow[32] = {0}, live[32] = {0}, dead[32] = {0};
-    numbers("no set", alarm_set(pool, n, NULL, 0, 1, 1, counts), counts, 4);
-    numbers("no set_each", alarm_set_each(pool, n, NULL, 0, NULL, 0, NULL, 0, counts), counts, 4);
-    numbers("no remove", alarm_remove(pool, n, NULL, 0, counts), counts, 4);
-    numbers("no compare", alarm_compare(pool, n, NULL, 0, false, 0, 0, false, 0, 0, counts), counts, 4);
-    numbers("no get", alarm_get(pool, n, NULL, 0, NULL, 0, told), told, 2);
+    numbers("no set", alarm_set(pool, n, BY_TIME, NULL, 0, 1, 1, counts), counts, 4);
+    numbers("no set_each", alarm_set_each(pool, n, BY_TIME, NULL, 0, NULL, 0, NULL, 0, counts), counts, 4);
+    numbers("no remove", alarm_remove(pool, n, BY_TIME, NULL, 0, counts), counts, 4);
+    numbers("no compare", alarm_compare(pool, n, BY_TIME, NULL, 0, false, 0, 0, false, 0, 0, counts), counts, 4);
+    numbers("no get", alarm_get(pool, n, BY_TIME, NULL, 0, NULL, 0, told), told, 2);
     const struct alarm_range all = {ALARM_UNBOUNDED, 0, ALARM_UNBOUNDED, 0, false, 0};
-    numbers("no scan", alarm_scan_range(pool, n, &all, NULL, 0, told), told, 3);
-    numbers("no frame", alarm_frame(pool, n, 0, NULL, 0, &len), &len, 1);
+    numbers("no scan", alarm_scan_range(pool, n, BY_TIME, &all, NULL, 0, told), told, 3);
+    numbers("no frame", alarm_frame(pool, n, BY_TIME, 0, NULL, 0, &len), &len, 1);
     printf("no read_frame %" PRIu32 "\n", alarm_read_frame(NULL, 0, head, keys, wide, narrow, live, dead));
     numbers("no write_leaf", alarm_write_leaf(0, keys, wide, narrow, NULL, 0, &len), &len, 1);
     numbers("no write_interior", alarm_write_interior(0, keys, narrow, live, dead, wide, NULL, 0, &len), &len, 1);
-    printf("no pool %" PRIu32 "\n", alarm_open(NULL, 0, 16, 4, 2));
-    numbers("no pool", alarm_totals(NULL, 0, totals), totals, 3);
+    printf("no pool %" PRIu32 "\n", alarm_open(NULL, 0, 16, 4, 2, 4, 2));
+    numbers("no pool", alarm_totals(NULL, 0, BY_TIME, totals), totals, 3);
     printf("no pack %" PRIu32 "\n", alarm_pack(NULL, 0, NULL, 0));
 }
 
 int main(void) {
-    printf("pool %" PRIu64 ", with a wrong minimum %" PRIu64 "\n", alarm_pool_len(16, 4, 2), alarm_pool_len(16, 4, 3));
+    printf("pool %" PRIu64 ", with a wrong minimum %" PRIu64 "\n", alarm_pool_len(16, 4, 2, 4, 2), alarm_pool_len(16, 4, 2, 4, 3));
     printf("lengths %s\n", lengths_agree() ? "agree" : "differ");
     memset(pool, 170, n);
 
     /* an unopened pool is refused, and the small buffer is as it was */
     uint64_t totals[3] = {7, 7, 7}, counts[4] = {7, 7, 7, 7};
-    numbers("totals", alarm_totals(pool, n, totals), totals, 3);
-    printf("open %" PRIu32 "\n", alarm_open(pool, n - 1, 16, 4, 2));
-    printf("open %" PRIu32 "\n", alarm_open(pool, n, 16, 4, 2));
+    numbers("totals", alarm_totals(pool, n, BY_TIME, totals), totals, 3);
+    printf("open %" PRIu32 "\n", alarm_open(pool, n - 1, 16, 4, 2, 4, 2));
+    printf("open %" PRIu32 "\n", alarm_open(pool, n, 16, 4, 2, 4, 2));
     printf("layout %s\n", pool[0] == ALARM_LAYOUT ? "agrees" : "differs");
 
     const uint64_t keys[5] = {1, 2, 3, 4, 5}, places[4] = {257, 258, 259, 260}, down[2] = {2, 1};
     const uint32_t sizes[4] = {16, 16, 16, 16};
-    numbers("set_each", alarm_set_each(pool, n, keys, 4, places, 4, sizes, 4, counts), counts, 4);
-    numbers("set_each", alarm_set_each(pool, n, keys, 4, places, 3, sizes, 4, counts), counts, 4);
-    numbers("set", alarm_set(pool, n, keys + 4, 1, 261, 16, counts), counts, 4);
-    numbers("set", alarm_set(pool, n, keys, 5, 1, 1, counts), counts, 4);
-    numbers("remove", alarm_remove(pool, n, down, 2, counts), counts, 4);
-    numbers("totals", alarm_totals(pool, n, totals), totals, 3);
+    numbers("set_each", alarm_set_each(pool, n, BY_TIME, keys, 4, places, 4, sizes, 4, counts), counts, 4);
+    numbers("set_each", alarm_set_each(pool, n, BY_TIME, keys, 4, places, 3, sizes, 4, counts), counts, 4);
+    numbers("set", alarm_set(pool, n, BY_TIME, keys + 4, 1, 261, 16, counts), counts, 4);
+    numbers("set", alarm_set(pool, n, BY_TIME, keys, 5, 1, 1, counts), counts, 4);
+    numbers("remove", alarm_remove(pool, n, BY_TIME, down, 2, counts), counts, 4);
+    numbers("totals", alarm_totals(pool, n, BY_TIME, totals), totals, 3);
 
     uint8_t line[ALARM_LINE_LEN];
     uint64_t len = 0;
     uint32_t code;
-    for (uint64_t i = 0; (code = alarm_frame(pool, n, i, line, sizeof line, &len)) == ALARM_DONE; i++)
+    for (uint64_t i = 0; (code = alarm_frame(pool, n, BY_TIME, i, line, sizeof line, &len)) == ALARM_DONE; i++)
         printf("%.*s\n", (int)len, (const char *)line);
     printf("frame %" PRIu32 ", the last had %" PRIu64 " digits\n", code, len);
 
@@ -154,7 +203,7 @@ int main(void) {
     numbers("write_leaf", alarm_write_leaf(33, k, wide, narrow, line, sizeof line, &len), &len, 1);
     memset(line + len, '0', 8);
     numbers("read_frame", alarm_read_frame(line, len + 8, head, k, wide, narrow, live, dead), head, 2);
-    alarm_frame(pool, n, 0, line, sizeof line, &len);
+    alarm_frame(pool, n, BY_TIME, 0, line, sizeof line, &len);
     numbers("read_frame", alarm_read_frame(line, len, head, k, wide, narrow, live, dead), head, 2);
     printf("  child %" PRIu32 " has %" PRIu32 " live, %" PRIu32 " dead, %" PRIu64 " bytes, up to %" PRIu64 "\n", narrow[0], live[0],
            dead[0], wide[0], k[0]);
@@ -164,23 +213,24 @@ int main(void) {
     uint8_t out[5 * ALARM_ENTRY_LEN];
     uint64_t told[3];
     const uint64_t asked[3] = {2, 2, 9};
-    numbers("get", alarm_get(pool, n, asked, 3, out, sizeof out, told), told, 2);
+    numbers("get", alarm_get(pool, n, BY_TIME, asked, 3, out, sizeof out, told), told, 2);
     entries(out, told[ALARM_WRITTEN]);
     const struct alarm_range behind_three = {ALARM_EXCLUDED, 3, ALARM_INCLUDED, 5, false, 0};
-    numbers("scan", alarm_scan(pool, n, true, false, 3, true, true, 5, false, 0, out, sizeof out, told), told, 3);
-    numbers("scan_range", alarm_scan_range(pool, n, &behind_three, out, sizeof out, told), told, 3);
+    numbers("scan", alarm_scan(pool, n, BY_TIME, true, false, 3, true, true, 5, false, 0, out, sizeof out, told), told, 3);
+    numbers("scan_range", alarm_scan_range(pool, n, BY_TIME, &behind_three, out, sizeof out, told), told, 3);
     entries(out, told[ALARM_WRITTEN]);
-    numbers("scan", alarm_scan(pool, n, false, false, 0, false, false, 0, true, 0, out, 49, told), told, 3);
+    numbers("scan", alarm_scan(pool, n, BY_TIME, false, false, 0, false, false, 0, true, 0, out, 49, told), told, 3);
     entries(out, told[ALARM_WRITTEN]);
-    numbers("scan", alarm_scan(pool, n, false, false, 0, false, false, 0, false, 17, out, sizeof out, told), told, 3);
+    numbers("scan", alarm_scan(pool, n, BY_TIME, false, false, 0, false, false, 0, false, 17, out, sizeof out, told), told, 3);
 
     /* an expectation that is met, one that is not, and a removal of what is absent */
-    numbers("compare", alarm_compare(pool, n, keys, 2, true, 257, 16, true, 300, 20, counts), counts, 4);
+    numbers("compare", alarm_compare(pool, n, BY_TIME, keys, 2, true, 257, 16, true, 300, 20, counts), counts, 4);
     const uint64_t six = 6;
-    numbers("compare", alarm_compare(pool, n, &six, 1, false, 0, 0, true, 0, 9, counts), counts, 4);
-    numbers("compare", alarm_compare(pool, n, keys + 4, 1, true, 261, 16, false, 0, 0, counts), counts, 4);
-    numbers("remove", alarm_remove(pool, n, keys + 4, 1, counts), counts, 4);
-    numbers("totals", alarm_totals(pool, n, totals), totals, 3);
+    numbers("compare", alarm_compare(pool, n, BY_TIME, &six, 1, false, 0, 0, true, 0, 9, counts), counts, 4);
+    numbers("compare", alarm_compare(pool, n, BY_TIME, keys + 4, 1, true, 261, 16, false, 0, 0, counts), counts, 4);
+    numbers("remove", alarm_remove(pool, n, BY_TIME, keys + 4, 1, counts), counts, 4);
+    numbers("totals", alarm_totals(pool, n, BY_TIME, totals), totals, 3);
+    two_trees();
     clearing();
     packing();
     without_elements();

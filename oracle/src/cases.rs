@@ -2,16 +2,15 @@
 //! docs/DECISIONS.md: as lines that crates/trial_replay replays. What is wanted is written out here, and every answer is held to it as its line
 //! is made.
 use crate::lines::Lines;
-use crate::script::Step;
-use crate::wanted::{down, entry, grove, set, two_groves, up, way_down, DESK};
-use plain::tree::{Index, Node};
+use crate::wanted::{deepest, down, entry, grove, p_of_before, set, two_groves, up, DESK};
+use crate::{before, eight};
 use plain::Bound::{Excluded, Included, Unbounded};
-use plain::{Action, Call, Entry, Expectation, Request, Settings};
+use plain::{Action, Call, Entry, Expectation, Limits, PoolSettings, Request, Settings};
 
 pub const CASES: [fn(&mut Lines); 14] =
     [case_1, case_2, case_3, case_4, case_5, case_6, case_7, case_8, case_9, case_10, case_11, case_12, case_13, case_14];
 
-pub const READINGS: [fn(&mut Lines); 29] = [
+pub const READINGS: [fn(&mut Lines); 43] = [
     slots_of_p,
     compare_removes,
     dead_entry,
@@ -41,6 +40,20 @@ pub const READINGS: [fn(&mut Lines); 29] = [
     dead_ones_packed,
     dead_sizes_are_free,
     old_sums,
+    no_such_tree,
+    the_other_stays,
+    order_of_its_own,
+    depth_of_its_own,
+    unused_of_the_pool,
+    freed_by_the_other,
+    six_unused,
+    roots_stay,
+    both_are_packed,
+    either_differs,
+    kinds_of_the_other,
+    zero_words,
+    eight_nodes,
+    one_tree,
 ];
 
 pub fn write(lines: &mut Lines) {
@@ -54,7 +67,7 @@ pub fn write(lines: &mut Lines) {
     }
 }
 
-// THE NUMBERED CASES (order 4, minimum 2; P = the pool after the program's input)
+// THE NUMBERED CASES (order 4, minimum 2; P = the pool after the program's input), all of tree 0
 
 /// 1. New pool: one frame, `01`.
 fn case_1(l: &mut Lines) {
@@ -120,13 +133,13 @@ fn case_7(l: &mut Lines) {
     l.tree_is(&[2, 4, 4], &leaves);
     l.totals_are(29, 0, 464);
 
-    let x = two_groves(32, &[&[1], &[2], &[3]], &[&[4], &[5], &[6, 7, 8, 9], &[10, 11, 12, 13]]);
-    l.by_hand(Settings { nodes: 32, ..DESK }, &x);
+    let f = two_groves(32, &[&[1], &[2], &[3]], &[&[4], &[5], &[6, 7, 8, 9], &[10, 11, 12, 13]]);
+    l.by_hand(PoolSettings { nodes: 32, ..DESK }, &f);
     l.done(&set(&[14]), [1, 0, 0, 0]);
     l.tree_is(&[2, 4, 4], &[&[1], &[2], &[3], &[4], &[5], &[6, 7, 8, 9], &[10, 11, 12], &[13, 14]]);
 }
 
-/// 8. N = 8, new: one key done, two keys refused 7.
+/// 8. N = 8, new: one key done, two keys refused 7. Six nodes are unused, of which one key asks for 6, and two for 8.
 fn case_8(l: &mut Lines) {
     l.new_pool(8);
     l.refused(&set(&[1, 2]), 7);
@@ -178,12 +191,12 @@ fn case_14(l: &mut Lines) {
 
 // THE READINGS
 
-/// 1. P stands in the slots 0, 1 and 2; after case 5 the last two are unused again.
+/// 1. P stands in the slots 0, 2 and 3, since slot 1 is tree 1's root; after case 5 the last two are unused again.
 fn slots_of_p(l: &mut Lines) {
     l.p();
-    l.slots_are(&[2, 1, 1]);
+    l.slots_are(&[2, 3, 1, 1]);
     l.done(&Call::remove(&[4]), [0, 0, 1, 0]);
-    l.slots_are(&[1]);
+    l.slots_are(&[1, 3]);
 }
 
 /// 2. Compare whose action is Remove: on an absent key it does nothing, and refusal 7 is for it too.
@@ -253,19 +266,19 @@ fn collapses_twice(l: &mut Lines) {
     l.by_hand(DESK, &two_groves(16, &[&[1]], &[&[2]]));
     l.done(&Call::remove(&[2]), [0, 0, 1, 0]);
     l.tree_is(&[], &[&[1]]);
-    l.slots_are(&[1]);
+    l.slots_are(&[1, 3]);
 }
 
 /// 10. Setting an equal reference again is a change, so that a leaf below the minimum is joined; at minimum 2 and at minimum 3.
 fn equal_reference(l: &mut Lines) {
-    for st in [DESK, BROAD] {
-        l.by_hand(st, &grove(&[&[1, 2, 3], &[4]]));
+    for ps in [DESK, BROAD] {
+        l.by_hand(ps, &grove(&[&[1, 2, 3], &[4]]));
         l.done(&set(&[4]), [0, 1, 0, 0]);
         l.tree_is(&[], &[&[1, 2, 3, 4]]);
     }
 }
 
-const BROAD: Settings = Settings { nodes: 16, order: 7, minimum: 3 };
+const BROAD: PoolSettings = PoolSettings::alike(16, 7, 3);
 
 /// 11. Joined in the middle of a batch, the walk goes on from the joint node.
 fn joined_in_a_batch(l: &mut Lines) {
@@ -295,9 +308,9 @@ fn zeros_behind(l: &mut Lines) {
 
 /// 15. At depth 8 no key is set, also none that is present. A removal is done, and what it leaves collapses to a leaf.
 fn depth_8(l: &mut Lines) {
-    let x = Index { root: Node::interior(0, vec![way_down(1, 1), way_down(8, 2)]), unused: vec![15] };
-    assert_eq!(x.depth(), 8);
-    l.by_hand(DESK, &x);
+    let f = deepest(16);
+    assert_eq!(f.roots[0].depth(), 8);
+    l.by_hand(DESK, &f);
     l.refused(&set(&[2]), 6);
     l.done(&Call::remove(&[2]), [0, 0, 1, 0]);
     l.tree_is(&[], &[&[1]]);
@@ -323,14 +336,14 @@ fn size_at_least(l: &mut Lines) {
     }
 }
 
-/// 18. P packs to leaves 1,2,3,4 and 5, in the slots 0, 1 and 2: the last node of a level may be below the minimum. P is only read.
+/// 18. P packs to leaves 1,2,3,4 and 5, in the slots 0, 2 and 3: the last node of a level may be below the minimum. P is only read.
 fn packs_p(l: &mut Lines) {
     l.p();
     l.beside(DESK);
     l.packs();
     l.turn();
     l.tree_is(&[2], &[&[1, 2, 3, 4], &[5]]);
-    l.slots_are(&[2, 1, 1]);
+    l.slots_are(&[2, 3, 1, 1]);
     l.turn();
     l.tree_is(&[2], &[&[1, 2, 3], &[4, 5]]);
 }
@@ -379,12 +392,12 @@ fn twenty_one(l: &mut Lines) {
 }
 const LEAVES_OF_21: [&[u64]; 6] = [&[1, 2, 3, 4], &[5, 6, 7, 8], &[9, 10, 11, 12], &[13, 14, 15, 16], &[17, 18, 19, 20], &[21]];
 
-/// 21. A target with just as many nodes as the packed tree needs, its root's too, and one with a node less.
+/// 21. A target with just as many nodes as the packed trees need, their roots' too, and one with a node less.
 fn just_as_large(l: &mut Lines) {
     twenty_one(l);
-    l.beside(Settings { nodes: 8, ..DESK });
+    l.beside(PoolSettings { nodes: 9, ..DESK });
     l.does_not_pack(7);
-    l.beside(Settings { nodes: 9, ..DESK });
+    l.beside(PoolSettings { nodes: 10, ..DESK });
     l.packs();
     l.turn();
     l.tree_is(&[2, 4, 2], &LEAVES_OF_21);
@@ -396,11 +409,11 @@ fn first_of_three(l: &mut Lines) {
     twenty_one(l);
     for (order, minimum) in [(5, 2), (4, 1)] {
         l.turn();
-        l.open(Settings { nodes: 8, order, minimum });
+        l.open(PoolSettings::alike(8, order, minimum));
         l.done(&set(&[7]), [1, 0, 0, 0]);
         l.turn();
         l.does_not_pack(17);
-        l.beside(Settings { nodes: 16, order, minimum });
+        l.beside(PoolSettings::alike(16, order, minimum));
         l.does_not_pack(17);
     }
     l.turn();
@@ -464,21 +477,21 @@ fn worn_is_packed(l: &mut Lines) {
     l.tree_is(&[2, 4, 1], &[&[1, 4, 5, 8], &[9, 12, 13, 16], &[17, 20, 21, 24], &[25, 28, 29, 32], &[33, 36, 37, 40]]);
     l.totals_are(20, 0, 320);
 
-    let x = two_groves(32, &[&[1], &[2, 3], &[4]], &[&[5, 6], &[7], &[8, 9]]);
-    l.by_hand(Settings { nodes: 32, ..DESK }, &x);
+    let f = two_groves(32, &[&[1], &[2, 3], &[4]], &[&[5, 6], &[7], &[8, 9]]);
+    l.by_hand(PoolSettings { nodes: 32, ..DESK }, &f);
     l.beside(DESK);
     l.packs();
     l.turn();
     l.tree_is(&[3], &[&[1, 2, 3, 4], &[5, 6, 7, 8], &[9]]);
-    l.slots_are(&[2, 1, 1, 1]);
+    l.slots_are(&[2, 3, 1, 1, 1]);
 }
 
 /// 26. Either pool not sound, a target of no bytes too: 2, whatever else applies.
 fn unsound_first(l: &mut Lines) {
-    let broad = Settings { nodes: 8, ..BROAD };
+    let broad = PoolSettings { nodes: 8, ..BROAD };
     l.p();
     l.turn();
-    l.open_refused(16, 4, 2, 0);
+    l.open_refused(DESK.numbers(), 0);
     l.turn();
     l.does_not_pack(2);
     l.beside(broad);
@@ -527,9 +540,9 @@ fn dead_sizes_are_free(l: &mut Lines) {
 fn old_sums(l: &mut Lines) {
     l.p();
     l.done(&Call::set(&[4], 0, 100), [0, 1, 0, 0]);
-    assert_eq!(l.with_old_sums(), [(11, 116)]);
+    assert_eq!(l.with_old_sums(), [(15, 116)]);
     l.refused_by_all();
-    l.play(&Step::Put { word: 11, value: 16 });
+    l.put(15, 16);
     l.totals_are(4, 1, 64);
 
     l.p();
@@ -542,4 +555,259 @@ fn old_sums(l: &mut Lines) {
     l.done(&Call::set(&[2], 0, 5), [0, 1, 0, 0]);
     assert_eq!(l.with_old_sums(), []);
     l.totals_are(1, 1, 16);
+}
+
+/// 30. A tree's number that is neither 0 nor 1 is refused as 19: after 2, and before every other number, also for a batch of no keys.
+fn no_such_tree(l: &mut Lines) {
+    l.p();
+    for tree in [2, 3, u64::MAX] {
+        l.on(tree);
+        l.all_refused(19);
+    }
+    l.on(0);
+    l.totals_are(5, 0, 80);
+
+    // where 6 and 7 apply too
+    l.by_hand(DESK, &deepest(16));
+    l.on(2);
+    l.all_refused(19);
+    l.damage();
+    l.all_refused(2);
+}
+
+/// 31. A batch on one tree leaves the other's frames, totals and lists, though both hold the same keys.
+fn the_other_stays(l: &mut Lines) {
+    l.p();
+    l.on(1);
+    l.frames_are(&["01"]);
+    l.input();
+    l.frames_are(&FRAMES_OF_P);
+    l.slots_are(&[2, 4, 1, 1, 3, 3]);
+    l.done(&Call::set(&[2], 0, 7), [0, 1, 0, 0]);
+    l.done(&Call::remove(&[4, 5]), [0, 0, 2, 0]);
+    l.done(&set(&[6]), [1, 0, 0, 0]);
+
+    l.on(0);
+    l.frames_are(&FRAMES_OF_P);
+    l.totals_are(5, 0, 80);
+    l.gets(&[2, 2, 9], &[entry(2), entry(2)]);
+    l.lists(up(Excluded(3), Included(5)), 9, &[4, 5], 2, false);
+    l.done(&Call::remove(&[1, 2, 3, 4]), [0, 0, 4, 0]);
+
+    l.on(1);
+    l.totals_are(3, 1, 48);
+    l.gets(&[2, 4], &[Entry { key: 2, place: 0, size: 7 }]);
+    l.lists(down(Unbounded, Unbounded), 9, &[6, 3, 1], 1, false);
+}
+
+/// Trees of orders 4 and 6.
+const TWO_ORDERS: PoolSettings = PoolSettings { nodes: 16, trees: [Limits { order: 4, minimum: 2 }, Limits { order: 6, minimum: 3 }] };
+
+/// 32. Each tree has its own order: 3 is given, and nodes are split and joined, by that of the tree that is named.
+///
+/// Slots are as wide as the larger one asks.
+fn order_of_its_own(l: &mut Lines) {
+    l.open(TWO_ORDERS);
+    assert_eq!(l.pool().len(), 8 * (8 + 16 * (2 + 6 * 6)));
+    l.refused(&set(&[1, 2, 3, 4, 5]), 3);
+    l.on(1);
+    l.done(&set(&[1, 2, 3, 4, 5]), [5, 0, 0, 0]);
+    l.refused(&set(&[1, 2, 3, 4, 5, 6, 7]), 3);
+    l.one_by_one(6..=7);
+    l.tree_is(&[2], &[&[1, 2, 3, 4], &[5, 6, 7]]);
+    l.on(0);
+    l.input();
+    l.tree_is(&[2], &[&[1, 2, 3], &[4, 5]]);
+    l.slots_are(&[2, 4, 3, 3, 1, 1]);
+    l.on(1);
+    l.done(&Call::remove(&[6]), [0, 0, 1, 0]);
+    l.tree_is(&[], &[&[1, 2, 3, 4, 5, 7]]);
+}
+
+/// 33. Depth, for 6 and in 7, is that of the tree that is named.
+fn depth_of_its_own(l: &mut Lines) {
+    l.by_hand(PoolSettings { nodes: 32, ..DESK }, &deepest(32));
+    l.refused(&set(&[2]), 6);
+    l.on(1);
+    l.done(&set(&[2]), [1, 0, 0, 0]);
+
+    // six unused nodes: one key asks for 7 of them at depth 3, and for 6 at depth 1
+    l.by_hand(PoolSettings { nodes: 14, ..DESK }, &two_groves(14, &[&[1], &[2]], &[&[3], &[4]]));
+    l.on(0);
+    l.refused(&set(&[5]), 7);
+    l.on(1);
+    l.refused(&set(&[5, 6]), 7);
+    l.done(&set(&[5]), [1, 0, 0, 0]);
+}
+
+/// 34. Unused nodes, in 7, are those of the pool: a batch on one tree can bring 7 to the other, and one that frees nodes can take it away.
+fn unused_of_the_pool(l: &mut Lines) {
+    l.new_pool(8);
+    l.one_by_one(1..=4);
+    l.on(1);
+    l.one_by_one(1..=3);
+    l.on(0);
+    l.one_by_one(5..=5);
+    l.on(1);
+    l.refused(&set(&[4]), 7);
+    l.on(0);
+    l.refused(&set(&[6]), 7);
+    l.done(&Call::remove(&[4]), [0, 0, 1, 0]);
+    l.on(1);
+    l.one_by_one(4..=5);
+    l.tree_is(&[2], &[&[1, 2, 3], &[4, 5]]);
+    l.on(0);
+    l.refused(&set(&[6]), 7);
+    l.tree_is(&[], &[&[1, 2, 3, 5]]);
+}
+
+/// 35. A slot that one tree frees is taken by the other, the lowest first.
+fn freed_by_the_other(l: &mut Lines) {
+    l.p();
+    l.on(1);
+    l.input();
+    l.slots_are(&[2, 4, 1, 1, 3, 3]);
+    l.on(0);
+    l.done(&Call::remove(&[4]), [0, 0, 1, 0]);
+    l.slots_are(&[1, 4, 0, 0, 3, 3]);
+    l.on(1);
+    l.one_by_one(6..=9);
+    l.tree_is(&[3], &[&[1, 2, 3, 4], &[5, 6, 7], &[8, 9]]);
+    l.slots_are(&[1, 4, 3, 0, 3, 3]);
+    l.on(0);
+    l.one_by_one(6..=6);
+    l.slots_are(&[2, 4, 3, 1, 3, 3, 1]);
+}
+
+/// 36. Case 8 of tree 1, and of tree 0 behind it: a leaf takes no further node.
+fn six_unused(l: &mut Lines) {
+    l.new_pool(8);
+    for tree in [1, 0] {
+        l.on(tree);
+        l.refused(&set(&[1, 2]), 7);
+        l.done(&set(&[1]), [1, 0, 0, 0]);
+        l.totals_are(1, 0, 16);
+    }
+}
+
+/// 37. Roots never move: what document 01 says of slot 0 is said of slot 1 too, in a tree that is split, collapses, and is emptied.
+fn roots_stay(l: &mut Lines) {
+    l.new_pool(16);
+    l.on(1);
+    l.input();
+    l.slots_are(&[1, 4, 3, 3]);
+    l.done(&Call::remove(&[4]), [0, 0, 1, 0]);
+    l.slots_are(&[1, 3]);
+    l.done(&Call::remove(&[1, 2, 3, 5]), [0, 0, 4, 0]);
+    l.slots_are(&[1, 3]);
+    l.frames_are(&["01"]);
+}
+
+/// 38. Packing copies both trees: the roots in slots 0 and 1, then the other nodes of tree 0 in preorder, then those of tree 1.
+///
+/// 7 counts the nodes of both.
+fn both_are_packed(l: &mut Lines) {
+    l.new_pool(40);
+    for k in 1..=21 {
+        for tree in [1, 0] {
+            l.on(tree);
+            l.one_by_one(k..=k);
+        }
+    }
+    l.beside(PoolSettings { nodes: 17, ..DESK });
+    l.does_not_pack(7);
+    l.beside(PoolSettings { nodes: 18, ..DESK });
+    l.packs();
+    l.turn();
+    for tree in [0, 1] {
+        l.on(tree);
+        l.tree_is(&[2, 4, 2], &LEAVES_OF_21);
+        l.totals_are(21, 0, 336);
+    }
+    l.slots_are(&[2, 4, 2, 1, 1, 1, 1, 2, 1, 1, 4, 3, 3, 3, 3, 4, 3, 3]);
+
+    // a tree that is one leaf has no further node
+    l.new_pool(16);
+    l.on(1);
+    l.input();
+    l.beside(DESK);
+    l.packs();
+    l.turn();
+    l.tree_is(&[2], &[&[1, 2, 3, 4], &[5]]);
+    l.slots_are(&[1, 4, 3, 3]);
+}
+
+/// 39. 17 where order or minimum of either tree differs, and 18 where either of the target's holds an entry.
+fn either_differs(l: &mut Lines) {
+    l.p();
+    let [same, other_minimum, other_order] = [(4, 2), (4, 1), (5, 2)].map(|(order, minimum)| Limits { order, minimum });
+    for trees in [[same, other_minimum], [other_minimum, same], [same, other_order], [other_order, same]] {
+        l.beside(PoolSettings { nodes: 16, trees });
+        l.does_not_pack(17);
+    }
+    for tree in [1, 0] {
+        l.beside(DESK);
+        l.on(tree);
+        l.turn();
+        l.done(&set(&[7]), [1, 0, 0, 0]);
+        l.turn();
+        l.does_not_pack(18);
+        l.turn();
+        l.done(&Call::remove(&[7]), [0, 0, 1, 0]);
+        l.turn();
+        l.packs();
+    }
+}
+
+/// 40. A tree's nodes all carry its own kinds.
+///
+/// P in both trees: a leaf of tree 0 with the kind of tree 1's, tree 0's root over a leaf of tree 1 that holds the very entries of its own, and then
+/// tree 1's root over tree 0's leaf as well, so that each node is reached once, are refused as 2 by every call.
+fn kinds_of_the_other(l: &mut Lines) {
+    l.p();
+    l.on(1);
+    l.input();
+    let (slot_2, first_child, of_tree_1) = (8 + 2 * 26, 8 + 3, 8 + 26 + 3);
+    l.put(slot_2, 3);
+    l.refused_by_all();
+    l.put(slot_2, 1);
+    l.totals_are(5, 0, 80);
+    l.put(first_child, (4 << 40) + (3 << 20));
+    l.refused_by_all();
+    l.put(of_tree_1, (2 << 40) + (3 << 20));
+    l.refused_by_all();
+    l.put(of_tree_1, (4 << 40) + (3 << 20));
+    l.put(first_child, (2 << 40) + (3 << 20));
+    l.totals_are(5, 0, 80);
+}
+
+/// 41. The word beside each tree's settings is zero.
+fn zero_words(l: &mut Lines) {
+    l.p();
+    for word in [4, 7] {
+        l.put(word, 1);
+        l.refused_by_all();
+        l.put(word, 0);
+        l.totals_are(5, 0, 80);
+    }
+}
+
+/// 42. A leaf that both trees name, while one that nobody names keeps the numbers even: refused as 2, whichever kinds these two have.
+fn eight_nodes(l: &mut Lines) {
+    l.new_pool(8);
+    for (second, fifth) in eight::KINDS {
+        l.write(&eight::words(second, fifth));
+        l.refused_by_all();
+    }
+}
+
+/// 43. A pool of one tree, as it was before there were two: refused as 2.
+///
+/// Here it has the length of a pool of two trees, and then that one's layout number as well.
+fn one_tree(l: &mut Lines) {
+    l.open(PoolSettings::alike(8, 5, 2));
+    l.write(&before::one_tree(&Settings { nodes: 10, order: 4, minimum: 2 }, &p_of_before()));
+    l.refused_by_all();
+    l.put(0, 2);
+    l.refused_by_all();
 }

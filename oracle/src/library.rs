@@ -1,5 +1,5 @@
 //! The library's calls on numbers and slices. 0 means done, any other answer is a number of the table of refusals.
-use plain::{Action, Bound, Call, Expectation, Operation, Request};
+use plain::{Action, Bound, Call, Expectation, Operation, Reference, Request};
 
 /// A frame by value, as the library gives it: kind (the header byte) and count, then 32 places a field.
 /// `wide` has the place, or the size sum; `narrow` the size, or the child number.
@@ -47,43 +47,62 @@ pub fn bound(b: Bound) -> (bool, bool, u64) {
     }
 }
 
+/// A place and a size that are expected, or none where the key must be absent; and those that are then set, or none where it is removed.
+#[derive(Clone, Copy, Debug)]
+pub struct Comparison {
+    pub expected: Option<(u64, u32)>,
+    pub action: Option<(u64, u32)>,
+}
+
+impl Comparison {
+    fn new(e: Expectation, a: Action) -> Comparison {
+        let expected = match e {
+            Expectation::Absent => None,
+            Expectation::Holds(r) => Some((r.place, r.size)),
+        };
+        let action = match a {
+            Action::Remove => None,
+            Action::Set(r) => Some((r.place, r.size)),
+        };
+        Comparison { expected, action }
+    }
+    pub fn parts(self) -> (Expectation, Action) {
+        let reference = |(place, size)| Reference { place, size };
+        (
+            self.expected.map_or(Expectation::Absent, |r| Expectation::Holds(reference(r))),
+            self.action.map_or(Action::Remove, |r| Action::Set(reference(r))),
+        )
+    }
+}
+
 pub trait Library {
     fn name(&self) -> String;
-    fn pool_len(&self, nodes: u64, order: u64, minimum: u64) -> u64;
-    fn open(&self, pool: &mut [u8], nodes: u64, order: u64, minimum: u64) -> u32;
-    fn totals(&self, pool: &[u8], totals: &mut [u64; 3]) -> u32;
-    fn set(&self, pool: &mut [u8], keys: &[u64], place: u64, size: u32, counts: &mut [u64; 4]) -> u32;
-    fn set_each(&self, pool: &mut [u8], keys: &[u64], places: &[u64], sizes: &[u32], counts: &mut [u64; 4]) -> u32;
-    fn remove(&self, pool: &mut [u8], keys: &[u64], counts: &mut [u64; 4]) -> u32;
-    /// No expectation is Absent, no action is Remove.
-    fn compare(&self, pool: &mut [u8], keys: &[u64], expected: Option<(u64, u32)>, action: Option<(u64, u32)>, counts: &mut [u64; 4]) -> u32;
+    /// Settings, here and below: nodes, order and minimum of tree 0, and of tree 1.
+    fn pool_len(&self, settings: [u64; 5]) -> u64;
+    fn open(&self, pool: &mut [u8], settings: [u64; 5]) -> u32;
+    /// A tree, here and below, is 0 or 1; any number may be given.
+    fn totals(&self, pool: &[u8], tree: u64, totals: &mut [u64; 3]) -> u32;
+    fn set(&self, pool: &mut [u8], tree: u64, keys: &[u64], place: u64, size: u32, counts: &mut [u64; 4]) -> u32;
+    fn set_each(&self, pool: &mut [u8], tree: u64, keys: &[u64], places: &[u64], sizes: &[u32], counts: &mut [u64; 4]) -> u32;
+    fn remove(&self, pool: &mut [u8], tree: u64, keys: &[u64], counts: &mut [u64; 4]) -> u32;
+    fn compare(&self, pool: &mut [u8], tree: u64, keys: &[u64], how: Comparison, counts: &mut [u64; 4]) -> u32;
     /// Told: entries written, and 1 where more were due.
-    fn get(&self, pool: &[u8], keys: &[u64], out: &mut [u8], told: &mut [u64; 2]) -> u32;
+    fn get(&self, pool: &[u8], tree: u64, keys: &[u64], out: &mut [u8], told: &mut [u64; 2]) -> u32;
     /// Told: entries written, 1 where more were due, nodes opened.
-    fn scan(&self, pool: &[u8], request: &Request, out: &mut [u8], told: &mut [u64; 3]) -> u32;
-    fn frame(&self, pool: &[u8], i: u64, line: &mut [u8], len: &mut u64) -> u32;
+    fn scan(&self, pool: &[u8], tree: u64, request: &Request, out: &mut [u8], told: &mut [u64; 3]) -> u32;
+    fn frame(&self, pool: &[u8], tree: u64, i: u64, line: &mut [u8], len: &mut u64) -> u32;
     fn read_frame(&self, line: &[u8], frame: &mut RawFrame) -> u32;
     fn write_leaf(&self, count: u64, keys: &[u64; 32], places: &[u64; 32], sizes: &[u32; 32], line: &mut [u8], len: &mut u64) -> u32;
     fn write_interior(&self, count: u64, frame: &RawFrame, line: &mut [u8], len: &mut u64) -> u32;
-    /// The source's tree, packed, in the target.
+    /// The source's trees, packed, in the target.
     fn pack(&self, source: &[u8], target: &mut [u8]) -> u32;
 
-    fn batch(&self, pool: &mut [u8], c: &Call, counts: &mut [u64; 4]) -> u32 {
+    fn batch(&self, pool: &mut [u8], tree: u64, c: &Call, counts: &mut [u64; 4]) -> u32 {
         match c.operation {
-            Operation::Set(r) => self.set(pool, &c.keys, r.place, r.size, counts),
-            Operation::SetEach => self.set_each(pool, &c.keys, &c.places, &c.sizes, counts),
-            Operation::Remove => self.remove(pool, &c.keys, counts),
-            Operation::Compare(e, a) => {
-                let expected = match e {
-                    Expectation::Absent => None,
-                    Expectation::Holds(r) => Some((r.place, r.size)),
-                };
-                let action = match a {
-                    Action::Remove => None,
-                    Action::Set(r) => Some((r.place, r.size)),
-                };
-                self.compare(pool, &c.keys, expected, action, counts)
-            }
+            Operation::Set(r) => self.set(pool, tree, &c.keys, r.place, r.size, counts),
+            Operation::SetEach => self.set_each(pool, tree, &c.keys, &c.places, &c.sizes, counts),
+            Operation::Remove => self.remove(pool, tree, &c.keys, counts),
+            Operation::Compare(e, a) => self.compare(pool, tree, &c.keys, Comparison::new(e, a), counts),
         }
     }
 }

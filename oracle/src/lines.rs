@@ -5,15 +5,17 @@ use crate::library::{bound, Library, RawFrame};
 use crate::script::Step;
 use crate::session::Session;
 use crate::tally::Tally;
+use plain::forest::Forest;
 use plain::pool::{image, length, put, word};
-use plain::tree::Index;
-use plain::{Action, Call, Expectation, Operation, Request, Settings};
+use plain::{Action, Call, Expectation, Operation, PoolSettings, Request};
 
 pub struct Lines<'l> {
     lib: &'l dyn Library,
     /// The pool at hand, and the other one.
     session: Session<'l>,
     other: Session<'l>,
+    /// The tree at hand.
+    tree: u64,
     made: Vec<String>,
 }
 
@@ -26,7 +28,7 @@ pub struct Told {
 impl<'l> Lines<'l> {
     /// No line yet, and no bytes of either pool. The answers will be those of this library.
     pub fn new(lib: &'l dyn Library) -> Lines<'l> {
-        Lines { lib, session: Session::over(lib, vec![]), other: Session::over(lib, vec![]), made: vec![] }
+        Lines { lib, session: Session::over(lib, vec![]), other: Session::over(lib, vec![]), tree: 0, made: vec![] }
     }
     pub fn made(&self) -> &[String] {
         &self.made
@@ -37,12 +39,19 @@ impl<'l> Lines<'l> {
     pub fn other_pool(&self) -> &[u8] {
         self.other.pool()
     }
-    pub fn settings(&self) -> Settings {
+    pub fn settings(&self) -> PoolSettings {
         self.session.settings
     }
     /// What the pool holds; none while it is not sound.
-    pub fn index(&self) -> Option<&Index> {
-        self.session.index()
+    pub fn forest(&self) -> Option<&Forest> {
+        self.session.forest()
+    }
+    /// This is the tree at hand, which the calls of a case or of a reading name, from here on. Each of these begins with tree 0.
+    pub fn on(&mut self, tree: u64) {
+        self.tree = tree;
+    }
+    pub fn tree(&self) -> u64 {
+        self.tree
     }
 
     fn make(&mut self, kind: u64, arguments: &[u64], answers: &[u64]) {
@@ -53,31 +62,32 @@ impl<'l> Lines<'l> {
 
     /// What follows is this numbered case.
     pub fn case(&mut self, n: u64) {
+        self.tree = 0;
         self.make(12, &[n], &[]);
     }
     /// What follows is this reading.
     pub fn reading(&mut self, n: u64) {
+        self.tree = 0;
         self.make(13, &[n], &[]);
     }
 
     /// An opening that is refused, over so many bytes.
-    pub fn open_refused(&mut self, nodes: u64, order: u64, minimum: u64, len: u64) {
+    pub fn open_refused(&mut self, settings: [u64; 5], len: u64) {
         let mut pool = vec![0x5a; len as usize];
-        let number = self.lib.open(&mut pool, nodes, order, minimum);
+        let number = self.lib.open(&mut pool, settings);
         assert_ne!(number, 0, "an opening that is done");
-        self.make(1, &[nodes, order, minimum, len], &[number.into(), check(&pool)]);
+        self.make(1, &[&settings[..], &[len]].concat(), &[number.into(), check(&pool)]);
         self.session = Session::over(self.lib, pool);
     }
-    pub fn open(&mut self, st: Settings) {
-        let session = Session::new(self.lib, st, None).expect("agreed");
-        let arguments = [st.nodes as u64, st.order as u64, st.minimum as u64, length(&st) as u64];
-        self.make(1, &arguments, &[0, check(session.pool())]);
+    pub fn open(&mut self, ps: PoolSettings) {
+        let session = Session::new(self.lib, ps, None).expect("agreed");
+        self.make(1, &[&ps.numbers()[..], &[length(&ps) as u64]].concat(), &[0, check(session.pool())]);
         self.session = session;
     }
-    /// The words by which the open pool, a new one, differs from the image of this index are put into it.
-    pub fn fill(&mut self, index: &Index) {
-        let st = self.settings();
-        let (mut pool, image) = (self.pool().to_vec(), image(&st, index));
+    /// The words by which the open pool, a new one, differs from the image of this forest are put into it.
+    pub fn fill(&mut self, f: &Forest) {
+        let ps = self.settings();
+        let (mut pool, image) = (self.pool().to_vec(), image(&ps, f));
         for at in 0..image.len() / 8 {
             let value = word(&image, at);
             if word(&pool, at) != value {
@@ -85,7 +95,7 @@ impl<'l> Lines<'l> {
                 self.make(11, &[at as u64, value], &[0, check(&pool)]);
             }
         }
-        self.session = self.session.again(st, index);
+        self.session = self.session.again(ps, f);
     }
     /// The other pool is at hand from here on.
     pub fn turn(&mut self) {
@@ -102,11 +112,11 @@ impl<'l> Lines<'l> {
         let before = self.pool().to_vec();
         self.session.step(step).expect("agreed");
         match step {
-            Step::Batch(c) => self.batch(c, &before),
-            Step::Totals => self.totals(),
-            Step::Get { keys, room } => self.get(keys, *room),
-            Step::Scan { request, room } => self.scan(request, *room),
-            Step::Frame { i, room } => self.frame(*i, *room),
+            Step::Batch { tree, call } => self.batch(*tree, call, &before),
+            Step::Totals { tree } => self.totals(*tree),
+            Step::Get { tree, keys, room } => self.get(*tree, keys, *room),
+            Step::Scan { tree, request, room } => self.scan(*tree, request, *room),
+            Step::Frame { tree, i, room } => self.frame(*tree, *i, *room),
             Step::Put { word, value } => self.told(11, &[*word as u64, *value], vec![0, check(self.pool())], vec![]),
             Step::Resize { .. } => unreachable!("a pool keeps its length up to the next opening"),
             Step::Pack { .. } => unreachable!("the target is the other pool, by its own lines"),
@@ -127,39 +137,39 @@ impl<'l> Lines<'l> {
         self.told(kind, arguments, answers, output.unwrap_or_default())
     }
 
-    fn batch(&mut self, c: &Call, before: &[u8]) -> Told {
+    fn batch(&mut self, tree: u64, c: &Call, before: &[u8]) -> Told {
         let (mut after, mut counts) = (before.to_vec(), [0; 4]);
-        let number = self.lib.batch(&mut after, c, &mut counts);
+        let number = self.lib.batch(&mut after, tree, c, &mut counts);
         let mut answers = vec![number.into()];
         answers.extend((number == 0).then_some(counts).into_iter().flatten());
         answers.push(check(&after));
         let (kind, arguments) = batch_arguments(c);
-        self.told(kind, &arguments, answers, vec![])
+        self.told(kind, &[vec![tree], arguments].concat(), answers, vec![])
     }
-    fn totals(&mut self) -> Told {
+    fn totals(&mut self, tree: u64) -> Told {
         let mut told = [0; 3];
-        let number = self.lib.totals(self.pool(), &mut told);
-        self.looked(2, &[], number, &told, None)
+        let number = self.lib.totals(self.pool(), tree, &mut told);
+        self.looked(2, &[tree], number, &told, None)
     }
-    fn get(&mut self, keys: &[u64], room: usize) -> Told {
+    fn get(&mut self, tree: u64, keys: &[u64], room: usize) -> Told {
         let (mut out, mut told) = (vec![0; room], [0; 2]);
-        let number = self.lib.get(self.pool(), keys, &mut out, &mut told);
+        let number = self.lib.get(self.pool(), tree, keys, &mut out, &mut told);
         out.truncate(24 * told[0] as usize);
-        self.looked(7, &[vec![room as u64], listed(keys)].concat(), number, &told, Some(out))
+        self.looked(7, &[vec![tree, room as u64], listed(keys)].concat(), number, &told, Some(out))
     }
-    fn scan(&mut self, q: &Request, room: usize) -> Told {
+    fn scan(&mut self, tree: u64, q: &Request, room: usize) -> Told {
         let (mut out, mut told) = (vec![0; room], [0; 3]);
-        let number = self.lib.scan(self.pool(), q, &mut out, &mut told);
+        let number = self.lib.scan(self.pool(), tree, q, &mut out, &mut told);
         out.truncate(24 * told[0] as usize);
         let ((sb, si, s), (eb, ei, e)) = (bound(q.start), bound(q.end));
-        let arguments = [sb.into(), si.into(), s, eb.into(), ei.into(), e, q.down.into(), q.least.into(), room as u64];
+        let arguments = [tree, sb.into(), si.into(), s, eb.into(), ei.into(), e, q.down.into(), q.least.into(), room as u64];
         self.looked(8, &arguments, number, &told, Some(out))
     }
-    fn frame(&mut self, i: u64, room: usize) -> Told {
+    fn frame(&mut self, tree: u64, i: u64, room: usize) -> Told {
         let (mut line, mut len) = (vec![0; room], 0);
-        let number = self.lib.frame(self.pool(), i, &mut line, &mut len);
+        let number = self.lib.frame(self.pool(), tree, i, &mut line, &mut len);
         line.truncate(len as usize);
-        self.looked(9, &[i, room as u64], number, &[len], Some(line))
+        self.looked(9, &[tree, i, room as u64], number, &[len], Some(line))
     }
     /// A frame is read; no pool is lent.
     pub fn read(&mut self, line: &[u8]) -> Told {
@@ -172,6 +182,7 @@ impl<'l> Lines<'l> {
     }
 }
 
+/// The arguments behind the tree.
 fn batch_arguments(c: &Call) -> (u64, Vec<u64>) {
     let keys = listed(&c.keys);
     match c.operation {

@@ -1,10 +1,10 @@
 //! What the published module does from an empty tree on: sequences of batches after which its list is not the plain one, made smaller.
 use crate::random::Random;
+use crate::variants::caught;
 use crate::walk::{batch, Keys, Mood};
 use plain::list::plain_batch;
-use plain::tree::{Index, Node};
+use plain::tree::Node;
 use plain::{Call, Entry, Operation, Settings};
-use std::panic::{catch_unwind, AssertUnwindSafe};
 
 /// The tree after some calls from an empty one, or how it failed.
 pub type Run = fn(&Settings, &[Call]) -> Result<Node, String>;
@@ -12,14 +12,13 @@ pub type Run = fn(&Settings, &[Call]) -> Result<Node, String>;
 macro_rules! run {
     ($name:ident, $krate:ident) => {
         pub fn $name(st: &Settings, calls: &[Call]) -> Result<Node, String> {
-            catch_unwind(AssertUnwindSafe(|| {
+            caught(|| {
                 let mut tree = $krate::Tree::open(st.order, st.minimum);
                 for c in calls {
                     tree.batch(&c.keys, c.operation, &c.references())?;
                 }
                 Ok(tree.shape())
-            }))
-            .unwrap_or_else(|_| Err("panics".to_string()))
+            })
         }
     };
 }
@@ -38,7 +37,7 @@ pub fn plain_list(calls: &[Call]) -> Vec<Entry> {
 
 /// The list after the calls is not the plain one.
 pub fn wrong_list(run: Run, st: &Settings, calls: &[Call]) -> bool {
-    run(st, calls).map(|n| crate::variants::entries(&n)) != Ok(plain_list(calls))
+    run(st, calls).map(|n| n.entries()) != Ok(plain_list(calls))
 }
 
 /// A node above the order.
@@ -56,21 +55,21 @@ pub type Bad = fn(Run, &Settings, &[Call]) -> bool;
 
 /// Some calls of sets and removals, as a caller might make them.
 fn random_calls(r: &mut Random, st: &Settings) -> Vec<Call> {
-    let mut x = Index { root: Node::leaf(0, vec![]), unused: vec![] };
+    let mut root = Node::leaf(0, vec![]);
     let wide = (3 * st.order * st.order) as u64;
     let mut keys = Keys::Below(r.pick(&[8 * st.order as u64, wide]));
     let turns = r.pick(&[20, 60, 150]);
     (0..turns)
         .map(|turn| {
             let mood = if turn * 2 < turns { Mood::Grow } else { r.pick(&[Mood::Churn, Mood::Clear, Mood::Clear]) };
-            let mut c = batch(r, st, Some(&x), &mut keys, mood);
+            let mut c = batch(r, st, Some(&root), &mut keys, mood);
             c.keys.truncate(st.order);
             c.keys.sort_unstable();
             c.keys.dedup();
             let c = if c.operation == Operation::Remove { Call::remove(&c.keys) } else { Call::set(&c.keys, 1, 1) };
-            let mut list = x.entries();
+            let mut list = root.entries();
             plain_batch(&c, &mut list);
-            x.root = Node::leaf(0, list);
+            root = Node::leaf(0, list);
             c
         })
         .collect()

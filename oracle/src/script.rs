@@ -1,21 +1,30 @@
 //! A list of calls on one pool, as it is run, shrunk and printed.
-use plain::tree::Index;
-use plain::{Call, Request, Settings};
+use plain::forest::Forest;
+use plain::{Call, PoolSettings, Request};
 
 #[derive(Clone, Debug, PartialEq)]
 pub enum Step {
-    Batch(Call),
-    Totals,
+    /// `tree` is any number, here and below.
+    Batch {
+        tree: u64,
+        call: Call,
+    },
+    Totals {
+        tree: u64,
+    },
     /// `room` is in bytes, here and below.
     Get {
+        tree: u64,
         keys: Vec<u64>,
         room: usize,
     },
     Scan {
+        tree: u64,
         request: Request,
         room: usize,
     },
     Frame {
+        tree: u64,
         i: u64,
         room: usize,
     },
@@ -35,23 +44,33 @@ pub enum Step {
     },
 }
 
+impl Step {
+    pub fn batch(tree: u64, call: Call) -> Step {
+        Step::Batch { tree, call }
+    }
+}
+
 #[derive(Clone, Debug, PartialEq)]
 pub struct Script {
-    pub settings: Settings,
-    /// A new pool, or one that holds this index.
-    pub start: Option<Index>,
+    pub settings: PoolSettings,
+    /// A new pool, or one that holds this forest.
+    pub start: Option<Forest>,
     pub steps: Vec<Step>,
 }
 
 impl Script {
     pub fn print(&self) {
-        let st = &self.settings;
-        println!("nodes {}, order {}, minimum {}", st.nodes, st.order, st.minimum);
+        println!("nodes {}", self.settings.nodes);
+        for (tree, limits) in self.settings.trees.iter().enumerate() {
+            println!("tree {tree}: order {}, minimum {}", limits.order, limits.minimum);
+        }
         match &self.start {
             None => println!("a new pool"),
-            Some(x) => {
-                println!("a pool with {}", x.root.picture());
-                println!("  {:?}", x.root);
+            Some(f) => {
+                for (tree, root) in f.roots.iter().enumerate() {
+                    println!("tree {tree} is {}", root.picture());
+                    println!("  {root:?}");
+                }
             }
         }
         for s in &self.steps {

@@ -1,19 +1,23 @@
-//! One pool under comparison: each step is done by the library on bytes, by the plain model and by the published module's third variant, which
-//! has no packing. Every answer, every lent buffer and every byte of the pool must agree; what must not change is looked at too.
+//! One pool under comparison: each step is done by the library on bytes, by the plain model, and by the three variants of the published module,
+//! which have a tree each for either of the pool's two, and no packing. Every answer, every lent buffer and every byte of the pool must agree;
+//! what must not change is looked at too, the other tree's answers after a batch among it.
 use crate::library::Library;
+use crate::other::Answers;
 use crate::packed;
+use crate::published::Published;
 use crate::script::{Script, Step};
 use crate::stand_in::entry_bytes;
 use crate::tally::Tally;
-use nebari_v3::Tree;
-use plain::frame::{fitted, frames_of, hex};
+use plain::forest::Forest;
+use plain::frame::{fitted, frames_of};
 use plain::look::{get_all, scan};
 use plain::pack::{self, pack};
 use plain::pool::{image, length, put};
-use plain::refuse::{get_refusal, refusal};
-use plain::sound::index_of;
-use plain::tree::Index;
-use plain::{Call, Request, Settings};
+use plain::refuse::{batch_refusal, get_refusal, tree_refusal};
+use plain::sound::forest_of;
+use plain::tree::Node;
+use plain::{Call, PoolSettings, Request};
+use std::rc::Rc;
 
 /// What differs.
 pub type Difference = String;
@@ -21,20 +25,36 @@ pub type Difference = String;
 #[derive(Clone)]
 pub struct Session<'l> {
     lib: &'l dyn Library,
-    pub settings: Settings,
+    pub settings: PoolSettings,
     pool: Vec<u8>,
     /// What the pool holds; none while it is not sound.
-    held: Option<(Index, Tree)>,
+    held: Option<Held>,
     pub tally: Tally,
 }
 
+#[derive(Clone)]
+struct Held {
+    forest: Forest,
+    /// The Rust beside each tree.
+    rust: [Published; 2],
+    /// What each tree answered when it was asked last; none where it was changed since.
+    answers: [Option<Rc<Answers>>; 2],
+}
+
+impl Held {
+    fn new(ps: &PoolSettings, forest: Forest) -> Held {
+        let rust = [0, 1].map(|tree| Published::build(&ps.of(tree), &forest.roots[tree]));
+        Held { forest, rust, answers: [None, None] }
+    }
+}
+
 /// Bytes, or numbers, that no call writes by chance.
-fn pattern(n: usize) -> Vec<u8> {
+pub(crate) fn pattern(n: usize) -> Vec<u8> {
     (0..n).map(|i| (i * 7 + 0xa5) as u8).collect()
 }
-const UNTOLD: u64 = 0xdead_beef_0bad_cafe;
+pub(crate) const UNTOLD: u64 = 0xdead_beef_0bad_cafe;
 
-fn same<T: PartialEq + std::fmt::Debug>(what: &str, got: T, wanted: T) -> Result<(), Difference> {
+pub(crate) fn same<T: PartialEq + std::fmt::Debug>(what: &str, got: T, wanted: T) -> Result<(), Difference> {
     if got == wanted {
         Ok(())
     } else {
@@ -52,31 +72,30 @@ fn same_bytes(what: &str, got: &[u8], wanted: &[u8]) -> Result<(), Difference> {
 }
 
 impl<'l> Session<'l> {
-    /// A pool opened by the library over any bytes, or the image of a given index.
-    pub fn new(lib: &'l dyn Library, settings: Settings, start: Option<&Index>) -> Result<Session<'l>, Difference> {
-        let st = settings;
-        let x = start.cloned().unwrap_or_else(|| Index::new(st.nodes));
+    /// A pool opened by the library over any bytes, or the image of a given forest.
+    pub fn new(lib: &'l dyn Library, settings: PoolSettings, start: Option<&Forest>) -> Result<Session<'l>, Difference> {
+        let ps = settings;
+        let forest = start.cloned().unwrap_or_else(|| Forest::new(ps.nodes));
         let mut tally = Tally::default();
         let pool = match start {
-            Some(x) => image(&st, x),
+            Some(f) => image(&ps, f),
             None => {
-                let n = lib.pool_len(st.nodes as u64, st.order as u64, st.minimum as u64);
-                same("pool length", n, length(&st) as u64)?;
+                let n = lib.pool_len(ps.numbers());
+                same("pool length", n, length(&ps) as u64)?;
                 let mut pool = pattern(n as usize);
-                same("open", lib.open(&mut pool, st.nodes as u64, st.order as u64, st.minimum as u64), 0)?;
+                same("open", lib.open(&mut pool, ps.numbers()), 0)?;
                 tally.answered("open", 0);
-                same_bytes("a new pool", &pool, &image(&st, &x))?;
+                same_bytes("a new pool", &pool, &image(&ps, &forest))?;
                 pool
             }
         };
-        let tree = Tree::build(st.order, st.minimum, &x.root);
-        Ok(Session { lib, settings, pool, held: Some((x, tree)), tally })
+        Ok(Session { lib, settings, pool, held: Some(Held::new(&ps, forest)), tally })
     }
 
     /// Bytes that are no pool.
     pub fn over(lib: &'l dyn Library, bytes: Vec<u8>) -> Session<'l> {
-        assert_eq!(index_of(&bytes), None);
-        Session { lib, settings: Settings { nodes: 0, order: 0, minimum: 0 }, pool: bytes, held: None, tally: Tally::default() }
+        assert_eq!(forest_of(&bytes), None);
+        Session { lib, settings: PoolSettings::alike(0, 0, 0), pool: bytes, held: None, tally: Tally::default() }
     }
 
     pub fn run(lib: &'l dyn Library, script: &Script) -> Result<Session<'l>, (usize, Difference)> {
@@ -92,13 +111,13 @@ impl<'l> Session<'l> {
         Session { tally: Tally::default(), ..self.clone() }
     }
 
-    /// A session of its own on the pool of x, with the same library.
-    pub fn again(&self, settings: Settings, x: &Index) -> Session<'l> {
-        Session::new(self.lib, settings, Some(x)).expect("an image needs no call")
+    /// A session of its own on the pool of a forest, with the same library.
+    pub fn again(&self, settings: PoolSettings, f: &Forest) -> Session<'l> {
+        Session::new(self.lib, settings, Some(f)).expect("an image needs no call")
     }
 
-    pub fn index(&self) -> Option<&Index> {
-        self.held.as_ref().map(|h| &h.0)
+    pub fn forest(&self) -> Option<&Forest> {
+        self.held.as_ref().map(|h| &h.forest)
     }
     pub fn pool(&self) -> &[u8] {
         &self.pool
@@ -106,11 +125,11 @@ impl<'l> Session<'l> {
 
     pub fn step(&mut self, step: &Step) -> Result<(), Difference> {
         match step {
-            Step::Batch(c) => self.batch(c),
-            Step::Totals => self.totals(),
-            Step::Get { keys, room } => self.get(keys, *room),
-            Step::Scan { request, room } => self.scan(request, *room),
-            Step::Frame { i, room } => self.frame(*i, *room),
+            Step::Batch { tree, call } => self.batch(*tree, call),
+            Step::Totals { tree } => self.totals(*tree),
+            Step::Get { tree, keys, room } => self.get(*tree, keys, *room),
+            Step::Scan { tree, request, room } => self.scan(*tree, request, *room),
+            Step::Frame { tree, i, room } => self.frame(*tree, *i, *room),
             Step::Put { word, value } => {
                 put(&mut self.pool, *word, *value);
                 self.damaged()
@@ -125,73 +144,106 @@ impl<'l> Session<'l> {
 
     /// The bytes were changed by hand: what they hold now is asked of the plain model.
     fn damaged(&mut self) -> Result<(), Difference> {
-        self.held = index_of(&self.pool).map(|(st, x)| {
-            self.settings = st;
-            let tree = Tree::build(st.order, st.minimum, &x.root);
-            (x, tree)
+        self.held = forest_of(&self.pool).map(|(ps, f)| {
+            self.settings = ps;
+            Held::new(&ps, f)
         });
         self.tally.count(if self.held.is_some() { "pools changed by hand, still sound" } else { "pools changed by hand, not sound" });
         Ok(())
     }
 
-    fn batch(&mut self, c: &Call) -> Result<(), Difference> {
-        let wanted = self.held.as_ref().map_or(2, |(x, _)| refusal(&self.settings, c, x));
+    /// The tree that a call names, with the Rust beside it; or 2, or 19.
+    fn named(&self, tree: u64) -> Result<(&Node, &Published), u32> {
+        let h = self.held.as_ref().ok_or(2u32)?;
+        match tree_refusal(tree) {
+            0 => Ok((&h.forest.roots[tree as usize], &h.rust[tree as usize])),
+            n => Err(n),
+        }
+    }
+
+    fn batch(&mut self, tree: u64, c: &Call) -> Result<(), Difference> {
+        let wanted = self.held.as_ref().map_or(2, |h| batch_refusal(&self.settings, tree, c, &h.forest));
         let before = (wanted != 0).then(|| self.pool.clone());
+        if wanted == 0 {
+            self.ask(1 - tree as usize)?;
+        }
         let mut counts = [UNTOLD; 4];
-        let got = self.lib.batch(&mut self.pool, c, &mut counts);
+        let got = self.lib.batch(&mut self.pool, tree, c, &mut counts);
         same("batch", got, wanted)?;
         self.tally.answered("batch", got);
         if let Some(before) = before {
             same_bytes("pool after a refused batch", &self.pool, &before)?;
             return same("counts after a refused batch", counts, [UNTOLD; 4]);
         }
-        let (x, mut tree) = self.held.take().expect("a sound pool");
-        let mut list = x.entries();
-        let (x, told) = plain::change::batch(&self.settings, c, x);
+        self.changed(tree as usize, c, counts)
+    }
+
+    /// A batch was done on one of the trees, and told these counts.
+    fn changed(&mut self, tree: usize, c: &Call, counts: [u64; 4]) -> Result<(), Difference> {
+        let mut h = self.held.take().expect("a sound pool");
+        let mut list = h.forest.roots[tree].entries();
+        let told = h.forest.batch(&self.settings, tree, c);
+        let root = &h.forest.roots[tree];
         same("plain list and plain tree, counts", plain::list::plain_batch(c, &mut list), told)?;
-        same("plain list and plain tree, entries", x.entries(), list)?;
-        same("third variant, counts", tree.batch(&c.keys, c.operation, &c.references())?, told)?;
-        let shape = tree.shape();
-        if !shape.same_shape(&x.root) {
-            return Err(format!("third variant, tree: {} beside the plain model's {}", shape.picture(), x.root.picture()));
-        }
+        same("plain list and plain tree, entries", root.entries(), list)?;
+        h.rust[tree].batch(&self.settings.of(tree), c, root, told, &mut self.tally)?;
         same("counts", counts, told.numbers())?;
-        same_bytes("pool after a batch", &self.pool, &image(&self.settings, &x))?;
-        self.held = Some((x, tree));
+        same_bytes("pool after a batch", &self.pool, &image(&self.settings, &h.forest))?;
+        h.answers[tree] = None;
+        let other = 1 - tree;
+        let after = Answers::asked(self.lib, &self.pool, other as u64, &h.forest.roots[other]);
+        after.same("the other tree after a batch", h.answers[other].as_ref().expect("asked before the batch"))?;
+        self.tally.count("batch, and the other tree answers as before");
+        self.held = Some(h);
         Ok(())
     }
 
-    fn totals(&mut self) -> Result<(), Difference> {
-        let before = self.pool.clone();
-        let mut told = [UNTOLD; 3];
-        let got = self.lib.totals(&self.pool, &mut told);
-        self.tally.answered("totals", got);
-        same_bytes("pool after totals", &self.pool, &before)?;
-        let Some((x, tree)) = &self.held else {
-            same("totals", got, 2)?;
-            return same("totals when refused", told, [UNTOLD; 3]);
-        };
-        same("totals", got, 0)?;
-        let t = x.root.totals();
-        same("third variant, totals", tree.totals(), t)?;
-        same("totals", told, [t.live, t.dead, t.size])
+    /// What a tree answers is known from here on, up to its next change.
+    fn ask(&mut self, tree: usize) -> Result<(), Difference> {
+        let h = self.held.as_mut().expect("a sound pool");
+        if h.answers[tree].is_none() {
+            let root = &h.forest.roots[tree];
+            let answers = Answers::asked(self.lib, &self.pool, tree as u64, root);
+            answers.same("the other tree before a batch", &Answers::wanted(root))?;
+            h.answers[tree] = Some(Rc::new(answers));
+        }
+        Ok(())
     }
 
-    fn get(&mut self, keys: &[u64], room: usize) -> Result<(), Difference> {
+    fn totals(&mut self, tree: u64) -> Result<(), Difference> {
+        let before = self.pool.clone();
+        let mut told = [UNTOLD; 3];
+        let got = self.lib.totals(&self.pool, tree, &mut told);
+        self.tally.answered("totals", got);
+        same_bytes("pool after totals", &self.pool, &before)?;
+        match self.named(tree) {
+            Err(n) => {
+                same("totals", got, n)?;
+                same("totals when refused", told, [UNTOLD; 3])
+            }
+            Ok((root, rust)) => {
+                same("totals", got, 0)?;
+                let t = root.totals();
+                rust.totals(t)?;
+                same("totals", told, [t.live, t.dead, t.size])
+            }
+        }
+    }
+
+    fn get(&mut self, tree: u64, keys: &[u64], room: usize) -> Result<(), Difference> {
         let before = self.pool.clone();
         let (mut out, mut told) = (pattern(room), [UNTOLD; 2]);
-        let got = self.lib.get(&self.pool, keys, &mut out, &mut told);
+        let got = self.lib.get(&self.pool, tree, keys, &mut out, &mut told);
         self.tally.answered("get", got);
         same_bytes("pool after a get", &self.pool, &before)?;
-        let wanted = self.held.as_ref().map_or(2, |_| get_refusal(keys));
+        let named = self.named(tree);
+        let wanted = named.as_ref().map_or_else(|n| *n, |_| get_refusal(tree, keys));
         same("get", got, wanted)?;
         let mut expected = pattern(room);
         let mut expected_told = [UNTOLD; 2];
-        if let (0, Some((x, tree))) = (wanted, &self.held) {
-            let l = get_all(keys, room / 24, x);
-            let g = tree.get(keys, room / 24);
-            same("third variant, get", &g.listed, &l)?;
-            same("third variant, the root's answer to a get", g.went_on, !l.more)?;
+        if let (0, Ok((root, rust))) = (wanted, named) {
+            let l = get_all(keys, room / 24, root);
+            rust.get(keys, room / 24, &l)?;
             let bytes = entry_bytes(&l.written);
             expected[..bytes.len()].copy_from_slice(&bytes);
             expected_told = [l.written.len() as u64, u64::from(l.more)];
@@ -200,18 +252,19 @@ impl<'l> Session<'l> {
         same_bytes("get, output", &out, &expected)
     }
 
-    fn scan(&mut self, q: &Request, room: usize) -> Result<(), Difference> {
+    fn scan(&mut self, tree: u64, q: &Request, room: usize) -> Result<(), Difference> {
         let before = self.pool.clone();
         let (mut out, mut told) = (pattern(room), [UNTOLD; 3]);
-        let got = self.lib.scan(&self.pool, q, &mut out, &mut told);
+        let got = self.lib.scan(&self.pool, tree, q, &mut out, &mut told);
         self.tally.answered("scan", got);
         same_bytes("pool after a scan", &self.pool, &before)?;
-        same("scan", got, if self.held.is_some() { 0 } else { 2 })?;
+        let named = self.named(tree);
+        same("scan", got, named.as_ref().err().copied().unwrap_or(0))?;
         let mut expected = pattern(room);
         let mut expected_told = [UNTOLD; 3];
-        if let Some((x, tree)) = &self.held {
-            let s = scan(q, room / 24, x);
-            same("third variant, scan", &tree.scan(q, room / 24), &s)?;
+        if let Ok((root, rust)) = named {
+            let s = scan(q, room / 24, root);
+            rust.scan(q, room / 24, &s)?;
             let bytes = entry_bytes(&s.listed.written);
             expected[..bytes.len()].copy_from_slice(&bytes);
             expected_told = [s.listed.written.len() as u64, u64::from(s.listed.more), s.opened];
@@ -220,20 +273,20 @@ impl<'l> Session<'l> {
         same_bytes("scan, output", &out, &expected)
     }
 
-    fn frame(&mut self, i: u64, room: usize) -> Result<(), Difference> {
+    fn frame(&mut self, tree: u64, i: u64, room: usize) -> Result<(), Difference> {
         let before = self.pool.clone();
         let (mut line, mut len) = (pattern(room), UNTOLD);
-        let got = self.lib.frame(&self.pool, i, &mut line, &mut len);
+        let got = self.lib.frame(&self.pool, tree, i, &mut line, &mut len);
         self.tally.answered("frame of a pool", got);
         same_bytes("pool after a frame", &self.pool, &before)?;
-        let wanted = match &self.held {
-            None => Err(2),
-            Some((x, tree)) => {
-                let frames = frames_of(x);
+        let wanted = match self.named(tree) {
+            Err(n) => Err(n),
+            Ok((root, rust)) => {
+                let frames = frames_of(root);
                 match usize::try_from(i).ok().and_then(|i| frames.get(i).map(|f| (i, f))) {
                     None => Err(14),
                     Some((i, f)) => {
-                        same("third variant, frame", hex(&tree.frames()[i]), f.line())?;
+                        rust.frame(i, f)?;
                         fitted(room, f.line())
                     }
                 }
@@ -267,7 +320,7 @@ impl<'l> Session<'l> {
     pub fn pack_into(&mut self, target: &mut Session<'_>) -> Result<u32, Difference> {
         let (source, before) = (self.pool.clone(), target.pool.clone());
         let wanted = match (&self.held, &target.held) {
-            (Some((x, _)), Some((y, _))) => pack::refusal(&self.settings, &target.settings, x, y),
+            (Some(x), Some(y)) => pack::refusal(&self.settings, &target.settings, &x.forest, &y.forest),
             _ => 2,
         };
         let got = self.lib.pack(&self.pool, &mut target.pool);
@@ -278,33 +331,40 @@ impl<'l> Session<'l> {
             same_bytes("target after a refused pack", &target.pool, &before)?;
             return Ok(got);
         }
-        let (x, _) = self.held.as_ref().expect("a sound pool");
+        let x = self.forest().expect("a sound pool");
         let y = pack(&target.settings, x);
         same_bytes("target after a pack", &target.pool, &image(&target.settings, &y))?;
-        same_bytes("entries of the target after a pack", &packed::entries_where_packed(&target.pool)?, &packed::entries(&self.pool))?;
-        self.tally.count(&format!("packed, from depth {} to {}", x.depth(), y.depth()));
-        let tree = Tree::build(target.settings.order, target.settings.minimum, &y.root);
-        target.held = Some((y, tree));
+        packed::is_packed(&target.pool)?;
+        for tree in 0..2 {
+            let what = format!("entries of the target's tree {tree} after a pack");
+            same_bytes(&what, &packed::entries(&target.pool, tree), &packed::entries(&self.pool, tree))?;
+        }
+        let depths = |f: &Forest| f.roots.iter().map(Node::depth).max().unwrap_or(0);
+        let counted = format!("packed, the deeper tree from depth {} to {}", depths(x), depths(&y));
+        self.tally.count(&counted);
+        target.held = Some(Held::new(&target.settings, y));
         Ok(got)
     }
 
     /// What was packed answers as this pool does, and packed once more, or this pool once more, the bytes are the same.
     fn packs_alike(&mut self, target: &Session<'_>) -> Result<(), Difference> {
-        let (lib, st) = (self.lib, target.settings);
-        let (x, _) = self.held.as_ref().expect("a sound pool");
-        let keys: Vec<u64> = x.entries().iter().map(|e| e.key).collect();
-        for pool in [&self.pool, &target.pool] {
-            let (mut out, mut told, mut totals) = (pattern(24 * keys.len()), [UNTOLD; 2], [UNTOLD; 3]);
-            same("packed, get of all keys", lib.get(pool, &keys, &mut out, &mut told), 0)?;
-            same("packed, get of all keys", told, [keys.len() as u64, 0])?;
-            same_bytes("packed, get of all keys", &out, &packed::entries(&self.pool))?;
-            same("packed, totals", lib.totals(pool, &mut totals), 0)?;
-            let t = x.root.totals();
-            same("packed, totals", totals, [t.live, t.dead, t.size])?;
+        let (lib, ps) = (self.lib, target.settings);
+        let forest = self.forest().expect("a sound pool");
+        for (tree, root) in forest.roots.iter().enumerate() {
+            let keys: Vec<u64> = root.entries().iter().map(|e| e.key).collect();
+            let t = root.totals();
+            for pool in [&self.pool, &target.pool] {
+                let (mut out, mut told, mut totals) = (pattern(24 * keys.len()), [UNTOLD; 2], [UNTOLD; 3]);
+                same("packed, get of all keys", lib.get(pool, tree as u64, &keys, &mut out, &mut told), 0)?;
+                same("packed, get of all keys", told, [keys.len() as u64, 0])?;
+                same_bytes("packed, get of all keys", &out, &packed::entries(&self.pool, tree))?;
+                same("packed, totals", lib.totals(pool, tree as u64, &mut totals), 0)?;
+                same("packed, totals", totals, [t.live, t.dead, t.size])?;
+            }
         }
-        self.tally.count("packed, both pools asked for all they hold");
+        self.tally.count("packed, both pools asked for all that both trees hold");
         for (source, what) in [(&self.pool, "packed again"), (&target.pool, "packed from the packed")] {
-            let mut again = image(&st, &Index::new(st.nodes));
+            let mut again = image(&ps, &Forest::new(ps.nodes));
             same(what, lib.pack(source, &mut again), 0)?;
             same_bytes(what, &again, &target.pool)?;
             self.tally.count(&format!("{what}, the same bytes"));

@@ -11,22 +11,22 @@ fn fails(lib: &dyn Library, s: &Script) -> Option<(usize, Difference)> {
 /// The same step with one key less, or one step less for the target of a packing, in every way.
 fn fewer_keys(step: &Step) -> Vec<Step> {
     match step {
-        Step::Batch(c) => (0..c.keys.len())
+        Step::Batch { tree, call } => (0..call.keys.len())
             .map(|i| {
-                let mut c = c.clone();
+                let mut c = call.clone();
                 c.keys.remove(i);
                 if c.operation == Operation::SetEach && i < c.places.len() && i < c.sizes.len() {
                     c.places.remove(i);
                     c.sizes.remove(i);
                 }
-                Step::Batch(c)
+                Step::batch(*tree, c)
             })
             .collect(),
-        Step::Get { keys, room } => (0..keys.len())
+        Step::Get { tree, keys, room } => (0..keys.len())
             .map(|i| {
                 let mut keys = keys.clone();
                 keys.remove(i);
-                Step::Get { keys, room: *room }
+                Step::Get { tree: *tree, keys, room: *room }
             })
             .collect(),
         Step::Pack { target, onward } => (0..target.steps.len())

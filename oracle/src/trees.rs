@@ -1,7 +1,8 @@
 //! Sound trees to start from: every small one, and random ones of any depth, also such as no batch leaves behind.
 use crate::random::Random;
-use plain::tree::{Index, Items, Node};
-use plain::{Entry, Settings};
+use plain::forest::Forest;
+use plain::tree::{Items, Node};
+use plain::Entry;
 
 /// Every third entry is dead, and sizes differ.
 pub fn entry_for(key: u64) -> Entry {
@@ -42,42 +43,61 @@ pub fn up_to(keys: &[u64], order: usize, depth: usize) -> Vec<Node> {
 }
 
 fn give_slots(n: &mut Node, slots: &mut impl Iterator<Item = usize>) {
-    n.slot = slots.next().expect("a slot for each node");
     if let Items::Nodes(ns) = &mut n.items {
-        ns.iter_mut().for_each(|n| give_slots(n, slots));
+        for n in ns {
+            n.slot = slots.next().expect("a slot for each node");
+            give_slots(n, slots);
+        }
     }
 }
 
-/// The tree with its root in slot 0 and the other nodes in preorder, or in any slots.
-pub fn placed(mut root: Node, nodes: usize, random: Option<&mut Random>) -> Index {
-    let mut slots: Vec<usize> = (1..nodes).collect();
+/// Two trees with their roots in slots 0 and 1 and the other nodes in preorder, tree 0's first, or in any slots.
+pub fn planted(mut roots: [Node; 2], nodes: usize, random: Option<&mut Random>) -> Forest {
+    let mut slots: Vec<usize> = (2..nodes).collect();
     if let Some(r) = random {
         r.shuffle(&mut slots);
     }
-    let used = root.nodes() - 1;
-    give_slots(&mut root, &mut std::iter::once(0).chain(slots[..used].iter().copied()));
+    let used = roots.iter().map(Node::nodes).sum::<usize>() - 2;
     let mut unused = slots.split_off(used);
     unused.sort_unstable();
-    Index { root, unused }
+    let mut slots = slots.into_iter();
+    for (slot, root) in roots.iter_mut().enumerate() {
+        root.slot = slot;
+        give_slots(root, &mut slots);
+    }
+    Forest { roots, unused }
 }
 
-/// Two leaves at depth 8, each below six nodes of one child.
-pub fn deepest(nodes: usize) -> Index {
+/// A tree that has this number, and the one beside it, in their order.
+pub fn pair<T>(tree: u64, this: T, other: T) -> [T; 2] {
+    if tree == 0 {
+        [this, other]
+    } else {
+        [other, this]
+    }
+}
+
+pub fn empty() -> Node {
+    Node::leaf(0, vec![])
+}
+
+/// A tree of two leaves at depth 8, each below six nodes of one child, beside an empty one.
+pub fn deepest(tree: u64, nodes: usize) -> Forest {
     let chain = |k| (0..6).fold(Node::leaf(0, vec![entry_for(k)]), |n, _| Node::interior(0, vec![n]));
-    placed(Node::interior(0, vec![chain(1), chain(2)]), nodes, None)
+    planted(pair(tree, Node::interior(0, vec![chain(1), chain(2)]), empty()), nodes, None)
 }
 
 /// A random tree of a depth with at most so many nodes; its keys ascend by gaps up to `gap`.
-pub fn random(r: &mut Random, st: &Settings, depth: usize, most: usize, gap: usize) -> Node {
+pub fn random(r: &mut Random, order: usize, depth: usize, most: usize, gap: usize) -> Node {
     let mut key = r.below(3) as u64;
     let mut left = most.max(2 * depth).saturating_sub(2 * depth - 1);
-    grow(r, st, depth, true, gap, &mut key, &mut left)
+    grow(r, order, depth, true, gap, &mut key, &mut left)
 }
 
 /// `left` nodes may be taken beyond the fewest that the tree needs.
-fn grow(r: &mut Random, st: &Settings, depth: usize, root: bool, gap: usize, key: &mut u64, left: &mut usize) -> Node {
+fn grow(r: &mut Random, order: usize, depth: usize, root: bool, gap: usize, key: &mut u64, left: &mut usize) -> Node {
     if depth == 1 {
-        let n = if root { r.below(st.order + 1) } else { some(r, st.order) };
+        let n = if root { r.below(order + 1) } else { some(r, order) };
         let es = (0..n).map(|_| {
             *key += r.between(1, gap) as u64;
             Entry { key: *key, place: if r.one_in(4) { 0 } else { r.next() }, size: if r.one_in(3) { r.next() as u32 } else { r.below(50) as u32 } }
@@ -85,12 +105,12 @@ fn grow(r: &mut Random, st: &Settings, depth: usize, root: bool, gap: usize, key
         return Node::leaf(0, es.collect());
     }
     let fewest = if root { 2 } else { 1 };
-    let mut n = some(r, st.order).max(fewest);
+    let mut n = some(r, order).max(fewest);
     while n > fewest && *left < (n - fewest) * (depth - 1) {
         n -= 1;
     }
     *left -= (n - fewest) * (depth - 1);
-    Node::interior(0, (0..n).map(|_| grow(r, st, depth - 1, false, gap, key, left)).collect())
+    Node::interior(0, (0..n).map(|_| grow(r, order, depth - 1, false, gap, key, left)).collect())
 }
 
 /// A tree over some entries, all its slots 0: each level is cut at random into nodes of `fewest` to order, until one is left.
@@ -100,7 +120,7 @@ pub fn loose(r: &mut Random, entries: &[Entry], fewest: usize, order: usize) -> 
         while level.len() > 1 {
             level = parts(r, level, fewest, order).into_iter().map(|ns| Node::interior(0, ns)).collect();
         }
-        let root = level.pop().unwrap_or_else(|| Node::leaf(0, vec![]));
+        let root = level.pop().unwrap_or_else(empty);
         if root.depth() <= 8 {
             return root;
         }

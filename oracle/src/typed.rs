@@ -1,10 +1,10 @@
 //! The linked library by the typed calls of the crate alarm-index: what they tell is written down as the C functions would, where they were
-//! not refused. Built where an archive is linked.
+//! not refused. A number of no tree cannot be given to them; it goes to the C functions. Built where an archive is linked.
 #![cfg(linked)]
-use crate::alarm::range_end;
-use crate::library::{Library, RawFrame};
-use alarm_index::{write_interior, write_leaf, Action, Branch, Counts, Direction, Entry, Expectation, Frame, Operation, Pool};
-use alarm_index::{Reference, Refusal, Settings, Sift, View};
+use crate::alarm::{range_end, Archive};
+use crate::library::{Comparison, Library, RawFrame};
+use alarm_index::{write_interior, write_leaf, Action, Branch, Counts, Direction, Entry, Expectation, Frame, Limits, Operation, Pool};
+use alarm_index::{Reference, Refusal, Settings, Sift, Tree, View};
 use plain::Request;
 
 pub struct Typed;
@@ -25,6 +25,10 @@ fn reference((place, size): (u64, u32)) -> Reference {
 
 fn counted(answer: Result<Counts, Refusal>, counts: &mut [u64; 4]) -> u32 {
     tell(answer, counts, |c| [c.added, c.replaced, c.removed, c.nothing])
+}
+
+fn given([nodes, order0, minimum0, order1, minimum1]: [u64; 5]) -> Settings {
+    Settings { nodes, first: Limits { order: order0, minimum: minimum0 }, second: Limits { order: order1, minimum: minimum1 } }
 }
 
 fn fields(frame: &Frame) -> RawFrame {
@@ -55,40 +59,48 @@ impl Library for Typed {
     fn name(&self) -> String {
         "the linked library, by typed calls".to_string()
     }
-    fn pool_len(&self, nodes: u64, order: u64, minimum: u64) -> u64 {
-        Settings { nodes, order, minimum }.pool_len().unwrap_or(0) as u64
+    fn pool_len(&self, settings: [u64; 5]) -> u64 {
+        given(settings).pool_len().unwrap_or(0) as u64
     }
-    fn open(&self, pool: &mut [u8], nodes: u64, order: u64, minimum: u64) -> u32 {
-        tell(Pool::open(pool, Settings { nodes, order, minimum }), &mut (), |_| ())
+    fn open(&self, pool: &mut [u8], settings: [u64; 5]) -> u32 {
+        tell(Pool::open(pool, given(settings)), &mut (), |_| ())
     }
-    fn totals(&self, pool: &[u8], totals: &mut [u64; 3]) -> u32 {
-        tell(View::new(pool).totals(), totals, |t| [t.live, t.dead, t.size])
+    fn totals(&self, pool: &[u8], tree: u64, totals: &mut [u64; 3]) -> u32 {
+        let Some(tree) = Tree::from_number(tree) else { return Archive.totals(pool, tree, totals) };
+        tell(View::new(pool).totals(tree), totals, |t| [t.live, t.dead, t.size])
     }
-    fn set(&self, pool: &mut [u8], keys: &[u64], place: u64, size: u32, counts: &mut [u64; 4]) -> u32 {
-        counted(Pool::new(pool).set(keys, reference((place, size))), counts)
+    fn set(&self, pool: &mut [u8], tree: u64, keys: &[u64], place: u64, size: u32, counts: &mut [u64; 4]) -> u32 {
+        let Some(tree) = Tree::from_number(tree) else { return Archive.set(pool, tree, keys, place, size, counts) };
+        counted(Pool::new(pool).set(tree, keys, reference((place, size))), counts)
     }
-    fn set_each(&self, pool: &mut [u8], keys: &[u64], places: &[u64], sizes: &[u32], counts: &mut [u64; 4]) -> u32 {
-        counted(Pool::new(pool).set_each(keys, places, sizes), counts)
+    fn set_each(&self, pool: &mut [u8], tree: u64, keys: &[u64], places: &[u64], sizes: &[u32], counts: &mut [u64; 4]) -> u32 {
+        let Some(tree) = Tree::from_number(tree) else { return Archive.set_each(pool, tree, keys, places, sizes, counts) };
+        counted(Pool::new(pool).set_each(tree, keys, places, sizes), counts)
     }
-    fn remove(&self, pool: &mut [u8], keys: &[u64], counts: &mut [u64; 4]) -> u32 {
-        counted(Pool::new(pool).remove(keys), counts)
+    fn remove(&self, pool: &mut [u8], tree: u64, keys: &[u64], counts: &mut [u64; 4]) -> u32 {
+        let Some(tree) = Tree::from_number(tree) else { return Archive.remove(pool, tree, keys, counts) };
+        counted(Pool::new(pool).remove(tree, keys), counts)
     }
-    fn compare(&self, pool: &mut [u8], keys: &[u64], expected: Option<(u64, u32)>, action: Option<(u64, u32)>, counts: &mut [u64; 4]) -> u32 {
-        let expectation = expected.map_or(Expectation::Absent, |r| Expectation::Holds(reference(r)));
-        let action = action.map_or(Action::Remove, |r| Action::Set(reference(r)));
-        counted(Pool::new(pool).batch(keys, Operation::Compare(expectation, action)), counts)
+    fn compare(&self, pool: &mut [u8], tree: u64, keys: &[u64], how: Comparison, counts: &mut [u64; 4]) -> u32 {
+        let Some(tree) = Tree::from_number(tree) else { return Archive.compare(pool, tree, keys, how, counts) };
+        let expectation = how.expected.map_or(Expectation::Absent, |r| Expectation::Holds(reference(r)));
+        let action = how.action.map_or(Action::Remove, |r| Action::Set(reference(r)));
+        counted(Pool::new(pool).batch(tree, keys, Operation::Compare(expectation, action)), counts)
     }
-    fn get(&self, pool: &[u8], keys: &[u64], out: &mut [u8], told: &mut [u64; 2]) -> u32 {
-        tell(View::new(pool).get(keys, out), told, |g| [g.entries.len() as u64, g.more.into()])
+    fn get(&self, pool: &[u8], tree: u64, keys: &[u64], out: &mut [u8], told: &mut [u64; 2]) -> u32 {
+        let Some(tree) = Tree::from_number(tree) else { return Archive.get(pool, tree, keys, out, told) };
+        tell(View::new(pool).get(tree, keys, out), told, |g| [g.entries.len() as u64, g.more.into()])
     }
-    fn scan(&self, pool: &[u8], q: &Request, out: &mut [u8], told: &mut [u64; 3]) -> u32 {
+    fn scan(&self, pool: &[u8], tree: u64, q: &Request, out: &mut [u8], told: &mut [u64; 3]) -> u32 {
+        let Some(tree) = Tree::from_number(tree) else { return Archive.scan(pool, tree, q, out, told) };
         let direction = if q.down { Direction::Down } else { Direction::Up };
         let sift = if q.least == 0 { Sift::All } else { Sift::SizeAtLeast(q.least) };
-        let answer = View::new(pool).scan((range_end(q.start), range_end(q.end)), direction, sift, out);
+        let answer = View::new(pool).scan(tree, (range_end(q.start), range_end(q.end)), direction, sift, out);
         tell(answer, told, |s| [s.entries.len() as u64, s.more.into(), s.opened])
     }
-    fn frame(&self, pool: &[u8], i: u64, line: &mut [u8], len: &mut u64) -> u32 {
-        tell(View::new(pool).frame(i, line), len, |l| l.len() as u64)
+    fn frame(&self, pool: &[u8], tree: u64, i: u64, line: &mut [u8], len: &mut u64) -> u32 {
+        let Some(tree) = Tree::from_number(tree) else { return Archive.frame(pool, tree, i, line, len) };
+        tell(View::new(pool).frame(tree, i, line), len, |l| l.len() as u64)
     }
     fn read_frame(&self, line: &[u8], frame: &mut RawFrame) -> u32 {
         tell(Frame::read(line), frame, |f| fields(&f))

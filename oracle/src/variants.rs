@@ -1,7 +1,9 @@
 //! The three variants of the published module side by side. A batch may end in an error or a panic there; both are told as text.
 use plain::tree::Node;
-use plain::{Call, Counts, Entry};
-use std::panic::{catch_unwind, AssertUnwindSafe};
+use plain::{Call, Counts};
+use std::cell::Cell;
+use std::panic::{catch_unwind, set_hook, take_hook, AssertUnwindSafe};
+use std::sync::Once;
 
 /// What a batch leaves: the tree and the counts, or how it failed.
 pub type Left = Result<(Node, Counts), String>;
@@ -17,11 +19,10 @@ macro_rules! variant {
     ($name:ident, $krate:ident) => {
         pub fn $name(order: usize, minimum: usize, root: &Node, c: &Call) -> (Left, Met) {
             let mut tree = $krate::Tree::build(order, minimum, root);
-            let left = catch_unwind(AssertUnwindSafe(|| {
+            let left = caught(|| {
                 let counts = tree.batch(&c.keys, c.operation, &c.references())?;
                 Ok((tree.shape(), counts))
-            }))
-            .unwrap_or_else(|_| Err("panics".to_string()));
+            });
             let (unequal, absorbed) = $krate::note::take();
             (left, Met { unequal, absorbed })
         }
@@ -31,12 +32,6 @@ macro_rules! variant {
 variant!(first, nebari_v1);
 variant!(second, nebari_v2);
 variant!(third, nebari_v3);
-
-pub fn entries(n: &Node) -> Vec<Entry> {
-    let mut out = vec![];
-    n.entries(&mut out);
-    out
-}
 
 /// Equal counts and trees.
 pub fn agree(a: &Left, b: &Left) -> bool {
@@ -53,7 +48,23 @@ pub fn shown(l: &Left) -> String {
     }
 }
 
-/// No message for panics that are expected.
-pub fn quiet() {
-    std::panic::set_hook(Box::new(|_| {}));
+thread_local! {
+    static EXPECTED: Cell<bool> = const { Cell::new(false) };
+}
+
+/// What the published module answers, a panic as text. Such a panic is expected, and no message is printed for it.
+pub fn caught<T>(f: impl FnOnce() -> Result<T, String>) -> Result<T, String> {
+    static HOOK: Once = Once::new();
+    HOOK.call_once(|| {
+        let usual = take_hook();
+        set_hook(Box::new(move |info| {
+            if !EXPECTED.get() {
+                usual(info);
+            }
+        }));
+    });
+    EXPECTED.set(true);
+    let answer = catch_unwind(AssertUnwindSafe(f));
+    EXPECTED.set(false);
+    answer.unwrap_or_else(|_| Err("panics".to_string()))
 }

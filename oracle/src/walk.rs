@@ -1,9 +1,10 @@
 //! Random calls, of every length around each boundary.
 use crate::random::Random;
 use crate::script::Step;
+use plain::forest::Forest;
 use plain::frame::frames_of;
-use plain::tree::Index;
-use plain::{Action, Bound, Call, Expectation, Operation, Reference, Request, Settings};
+use plain::tree::Node;
+use plain::{Action, Bound, Call, Expectation, Operation, PoolSettings, Reference, Request, Settings};
 
 /// Where keys come from.
 #[derive(Clone, Copy, Debug)]
@@ -62,8 +63,8 @@ fn length(r: &mut Random, order: usize) -> usize {
 }
 
 /// Ascending keys: from the source, or a run of those that the tree holds.
-fn keys(r: &mut Random, n: usize, source: &mut Keys, x: Option<&Index>, held: bool) -> Vec<u64> {
-    let es = x.map(|x| x.entries()).unwrap_or_default();
+fn keys(r: &mut Random, n: usize, source: &mut Keys, root: Option<&Node>, held: bool) -> Vec<u64> {
+    let es = root.map(Node::entries).unwrap_or_default();
     let mut ks: Vec<u64> = if held && !es.is_empty() {
         let from = r.below(es.len());
         let near = r.one_in(2);
@@ -79,7 +80,7 @@ fn keys(r: &mut Random, n: usize, source: &mut Keys, x: Option<&Index>, held: bo
     ks
 }
 
-pub fn batch(r: &mut Random, st: &Settings, x: Option<&Index>, source: &mut Keys, mood: Mood) -> Call {
+pub fn batch(r: &mut Random, st: &Settings, root: Option<&Node>, source: &mut Keys, mood: Mood) -> Call {
     let n = length(r, st.order);
     let removes = match mood {
         Mood::Grow => 10,
@@ -88,15 +89,15 @@ pub fn batch(r: &mut Random, st: &Settings, x: Option<&Index>, source: &mut Keys
     };
     let remove = r.below(100) < removes;
     let held = if remove { !r.one_in(6) } else { r.one_in(8) };
-    let mut ks = keys(r, n, source, x, held);
+    let mut ks = keys(r, n, source, root, held);
     if n > 1 && r.one_in(40) {
         let (a, b) = (r.below(n), r.below(n));
         ks.swap(a, b);
     }
     let operation = match (remove, r.below(8)) {
-        (true, 0) => Operation::Compare(expectation(r, x, &ks), Action::Remove),
+        (true, 0) => Operation::Compare(expectation(r, root, &ks), Action::Remove),
         (true, _) => Operation::Remove,
-        (false, 0) => Operation::Compare(expectation(r, x, &ks), Action::Set(reference(r))),
+        (false, 0) => Operation::Compare(expectation(r, root, &ks), Action::Set(reference(r))),
         (false, 1) => Operation::Compare(Expectation::Absent, Action::Set(reference(r))),
         (false, 2) => Operation::Set(reference(r)),
         (false, _) => Operation::SetEach,
@@ -112,8 +113,8 @@ pub fn batch(r: &mut Random, st: &Settings, x: Option<&Index>, source: &mut Keys
 }
 
 /// Absent, or what one of the keys holds, or something else.
-fn expectation(r: &mut Random, x: Option<&Index>, ks: &[u64]) -> Expectation {
-    let es = x.map(|x| x.entries()).unwrap_or_default();
+fn expectation(r: &mut Random, root: Option<&Node>, ks: &[u64]) -> Expectation {
+    let es = root.map(Node::entries).unwrap_or_default();
     let held = ks.first().and_then(|k| es.iter().find(|e| e.key == *k)).map(|e| e.reference());
     match (r.below(4), held) {
         (0, _) => Expectation::Absent,
@@ -129,8 +130,8 @@ fn room(r: &mut Random, n: usize, width: usize) -> usize {
     (entries * width + r.pick(&[0, 0, 0, 1, width - 1])).saturating_sub(r.below(2) * r.below(2))
 }
 
-fn near(r: &mut Random, x: Option<&Index>, source: &mut Keys) -> u64 {
-    let es = x.map(|x| x.entries()).unwrap_or_default();
+fn near(r: &mut Random, root: Option<&Node>, source: &mut Keys) -> u64 {
+    let es = root.map(Node::entries).unwrap_or_default();
     if es.is_empty() || r.one_in(5) {
         return source.one(r);
     }
@@ -138,43 +139,74 @@ fn near(r: &mut Random, x: Option<&Index>, source: &mut Keys) -> u64 {
     r.pick(&[k, k, k.wrapping_add(1), k.wrapping_sub(1)])
 }
 
-fn bound(r: &mut Random, x: Option<&Index>, source: &mut Keys) -> Bound {
+fn bound(r: &mut Random, root: Option<&Node>, source: &mut Keys) -> Bound {
     match r.below(4) {
         0 => Bound::Unbounded,
-        1 => Bound::Excluded(near(r, x, source)),
-        _ => Bound::Included(near(r, x, source)),
+        1 => Bound::Excluded(near(r, root, source)),
+        _ => Bound::Included(near(r, root, source)),
     }
 }
 
-pub fn look(r: &mut Random, x: Option<&Index>, source: &mut Keys) -> Step {
-    let held = x.map_or(0, |x| x.entries().len());
+pub fn look(r: &mut Random, tree: u64, root: Option<&Node>, source: &mut Keys) -> Step {
+    let held = root.map_or(0, |root| root.entries().len());
     match r.below(10) {
-        0 => Step::Totals,
+        0 => Step::Totals { tree },
         1..=3 => {
             let n = r.pick(&[0, 1, 2, 5, 40]);
-            let mut ks: Vec<u64> = (0..n).map(|_| near(r, x, source)).collect();
+            let mut ks: Vec<u64> = (0..n).map(|_| near(r, root, source)).collect();
             if !r.one_in(12) {
                 ks.sort_unstable();
             }
-            Step::Get { room: room(r, n, 24), keys: ks }
+            Step::Get { tree, room: room(r, n, 24), keys: ks }
         }
         4..=7 => {
-            let (start, end) = (bound(r, x, source), bound(r, x, source));
+            let (start, end) = (bound(r, root, source), bound(r, root, source));
             let least = r.pick(&[0, 0, 1, 16, 17, 1000, u32::MAX]);
             let most = if r.one_in(3) { held } else { held.min(6) };
-            Step::Scan { request: Request { start, end, down: r.one_in(2), least }, room: room(r, most, 24) }
+            Step::Scan { tree, request: Request { start, end, down: r.one_in(2), least }, room: room(r, most, 24) }
         }
-        _ => frame(r, x),
+        _ => frame(r, tree, root),
     }
 }
 
-fn frame(r: &mut Random, x: Option<&Index>) -> Step {
-    let frames = x.map(frames_of).unwrap_or_default();
+fn frame(r: &mut Random, tree: u64, root: Option<&Node>) -> Step {
+    let frames = root.map(frames_of).unwrap_or_default();
     let i = match r.below(12) {
         0 => frames.len() as u64,
         1 => u64::MAX,
         _ => r.below(frames.len() + 1) as u64,
     };
     let n = frames.get(i as usize).map_or(2, |f| f.line().len());
-    Step::Frame { i, room: r.pick(&[0, 1, n - 1, n, n, n + 1, n + 40]) }
+    Step::Frame { tree, i, room: r.pick(&[0, 1, n - 1, n, n, n + 1, n + 40]) }
+}
+
+/// A tree's number; now and then one that no tree has.
+pub fn some_tree(r: &mut Random) -> u64 {
+    if r.one_in(24) {
+        r.pick(&[2, 3, 4, 256, 1 << 32, u64::MAX])
+    } else {
+        r.below(2) as u64
+    }
+}
+
+/// Random calls on a pool of two trees, each with keys from a source of its own. A call that names neither is such as one of them would get.
+pub struct Walk {
+    pub settings: PoolSettings,
+    pub keys: [Keys; 2],
+}
+
+impl Walk {
+    pub fn random(r: &mut Random, ps: &PoolSettings) -> Walk {
+        Walk { settings: *ps, keys: [0, 1].map(|tree| Keys::random(r, &ps.of(tree))) }
+    }
+    pub fn batch(&mut self, r: &mut Random, f: Option<&Forest>, mood: Mood) -> Step {
+        let tree = some_tree(r);
+        let i = (tree % 2) as usize;
+        Step::batch(tree, batch(r, &self.settings.of(i), f.map(|f| &f.roots[i]), &mut self.keys[i], mood))
+    }
+    pub fn look(&mut self, r: &mut Random, f: Option<&Forest>) -> Step {
+        let tree = some_tree(r);
+        let i = (tree % 2) as usize;
+        look(r, tree, f.map(|f| &f.roots[i]), &mut self.keys[i])
+    }
 }

@@ -1,18 +1,20 @@
 //! What a numbered case or a reading does to its pool, and what it wants to be answered: each call is put among the lines and held to that.
 //!
-//! Order 4, minimum 2. A key k has place 256 + k and size 16, as in document 01's input; P is the pool after that input.
-use crate::before::old_sums;
+//! Order 4, minimum 2, of both trees where nothing else is said. A key k has place 256 + k and size 16, as in document 01's input; P is the pool
+//! after that input, in tree 0. What is done and asked names the tree at hand.
+use crate::before::{old_sums, written};
 use crate::lines::{Lines, Told};
 use crate::script::Step;
 use crate::stand_in::entry_bytes;
+use plain::forest::Forest;
 use plain::frame::{write_frame, Frame};
-use plain::pool::{slot_words, word, HEADER};
+use plain::pool::{slot_at, word};
 use plain::read_frame::read_line;
-use plain::tree::{Index, Node};
-use plain::{Action, Bound, Call, Entry, Expectation, Request, Settings};
+use plain::tree::Node;
+use plain::{Action, Bound, Call, Entry, Expectation, PoolSettings, Request};
 use std::ops::RangeInclusive;
 
-pub const DESK: Settings = Settings { nodes: 16, order: 4, minimum: 2 };
+pub const DESK: PoolSettings = PoolSettings::alike(16, 4, 2);
 
 pub fn entry(k: u64) -> Entry {
     Entry { key: k, place: 256 + k, size: 16 }
@@ -38,19 +40,32 @@ pub fn down(start: Bound, end: Bound) -> Request {
 fn leaves_from(from: usize, leaves: &[&[u64]]) -> Vec<Node> {
     leaves.iter().enumerate().map(|(i, keys)| Node::leaf(from + i, entries(keys))).collect()
 }
+/// A tree 0 beside an empty tree 1, among so many nodes: the slots from 2 on are in use up to the last that the tree has.
+pub fn alone(nodes: usize, root: Node) -> Forest {
+    let used = root.nodes() + 1;
+    Forest { roots: [root, Node::leaf(1, vec![])], unused: (used..nodes).collect() }
+}
 /// One root over leaves, among 16 nodes.
-pub fn grove(leaves: &[&[u64]]) -> Index {
-    Index { root: Node::interior(0, leaves_from(1, leaves)), unused: (1 + leaves.len()..16).collect() }
+pub fn grove(leaves: &[&[u64]]) -> Forest {
+    alone(16, Node::interior(0, leaves_from(2, leaves)))
 }
-/// A root over two interiors in the slots 1 and 2, each over leaves, among so many nodes.
-pub fn two_groves(nodes: usize, a: &[&[u64]], b: &[&[u64]]) -> Index {
-    let interiors = vec![Node::interior(1, leaves_from(3, a)), Node::interior(2, leaves_from(3 + a.len(), b))];
-    Index { root: Node::interior(0, interiors), unused: (3 + a.len() + b.len()..nodes).collect() }
+/// A root over two interiors in the slots 2 and 3, each over leaves, among so many nodes.
+pub fn two_groves(nodes: usize, a: &[&[u64]], b: &[&[u64]]) -> Forest {
+    let interiors = vec![Node::interior(2, leaves_from(4, a)), Node::interior(3, leaves_from(4 + a.len(), b))];
+    alone(nodes, Node::interior(0, interiors))
 }
-/// A leaf of one key below six interiors of one child: in the slots from `from` on, the leaf in the last of seven.
-pub fn way_down(from: usize, key: u64) -> Node {
+/// Two leaves of one key at depth 8, among so many nodes: each below six interiors of one child.
+pub fn deepest(nodes: usize) -> Forest {
+    alone(nodes, Node::interior(0, vec![way_down(2, 1), way_down(9, 2)]))
+}
+/// In the slots from `from` on, the leaf in the last of seven.
+fn way_down(from: usize, key: u64) -> Node {
     let leaf = Node::leaf(from + 6, entries(&[key]));
     (from..from + 6).rev().fold(leaf, |below, slot| Node::interior(slot, vec![below]))
+}
+/// P as it was in a pool of one tree.
+pub fn p_of_before() -> Node {
+    Node::interior(0, leaves_from(1, &[&[1, 2, 3], &[4, 5]]))
 }
 
 #[track_caller]
@@ -60,30 +75,38 @@ fn begins_with(t: &Told, wanted: &[u64]) {
 
 impl Lines<'_> {
     pub fn new_pool(&mut self, nodes: usize) {
-        self.open(Settings { nodes, ..DESK });
+        self.open(PoolSettings { nodes, ..DESK });
     }
     #[track_caller]
     pub fn p(&mut self) {
         self.new_pool(16);
+        self.input();
+    }
+    /// The program's input, into the tree at hand.
+    #[track_caller]
+    pub fn input(&mut self) {
         self.done(&set(&[1, 2, 3, 4]), [4, 0, 0, 0]);
         self.done(&set(&[5]), [1, 0, 0, 0]);
     }
     /// A pool written by hand.
-    pub fn by_hand(&mut self, st: Settings, index: &Index) {
-        self.open(st);
-        self.fill(index);
-        assert_eq!(plain::sound::index_of(self.pool()).as_ref(), Some(&(st, index.clone())));
+    pub fn by_hand(&mut self, ps: PoolSettings, f: &Forest) {
+        self.open(ps);
+        self.fill(f);
+        assert_eq!(plain::sound::forest_of(self.pool()).as_ref(), Some(&(ps, f.clone())));
     }
 
+    fn changed(&mut self, c: &Call) -> Told {
+        self.play(&Step::batch(self.tree(), c.clone()))
+    }
     /// A batch is done and counts so many keys that added, replaced, removed and did nothing.
     #[track_caller]
     pub fn done(&mut self, c: &Call, [added, replaced, removed, nothing]: [u64; 4]) {
-        begins_with(&self.play(&Step::Batch(c.clone())), &[0, added, replaced, removed, nothing]);
+        begins_with(&self.changed(c), &[0, added, replaced, removed, nothing]);
     }
     #[track_caller]
     pub fn refused(&mut self, c: &Call, number: u64) {
         let before = self.pool().to_vec();
-        begins_with(&self.play(&Step::Batch(c.clone())), &[number]);
+        begins_with(&self.changed(c), &[number]);
         assert_eq!(self.pool(), before);
     }
     /// Keys are added one by one.
@@ -96,19 +119,19 @@ impl Lines<'_> {
 
     #[track_caller]
     pub fn totals_are(&mut self, live: u64, dead: u64, size: u64) {
-        assert_eq!(self.play(&Step::Totals).answers, [0, live, dead, size]);
+        assert_eq!(self.play(&Step::Totals { tree: self.tree() }).answers, [0, live, dead, size]);
     }
     /// A get of these keys lists these entries, and no more are due.
     #[track_caller]
     pub fn gets(&mut self, keys: &[u64], found: &[Entry]) {
-        let t = self.play(&Step::Get { keys: keys.to_vec(), room: 480 });
+        let t = self.play(&Step::Get { tree: self.tree(), keys: keys.to_vec(), room: 480 });
         begins_with(&t, &[0, found.len() as u64, 0]);
         assert_eq!(t.output, entry_bytes(found));
     }
     /// A scan with room for so many entries lists these keys, opens so many nodes, and says whether more are due.
     #[track_caller]
     pub fn lists(&mut self, request: Request, room: usize, keys: &[u64], opened: u64, more: bool) {
-        let t = self.play(&Step::Scan { request, room: 24 * room });
+        let t = self.play(&Step::Scan { tree: self.tree(), request, room: 24 * room });
         begins_with(&t, &[0, keys.len() as u64, more.into(), opened]);
         assert_eq!(t.output, entry_bytes(&entries(keys)));
     }
@@ -129,7 +152,7 @@ impl Lines<'_> {
     }
     /// The pool at hand as it was before a size sum counted live entries alone: the words that were others, and what they were.
     pub fn with_old_sums(&mut self) -> Vec<(usize, u64)> {
-        let steps = old_sums(&self.settings(), self.index().expect("sound"));
+        let steps = old_sums(&self.settings(), self.forest().expect("sound"));
         let others = steps.iter().map(|step| {
             self.play(step);
             let Step::Put { word, value } = step else { unreachable!("words are put") };
@@ -137,15 +160,40 @@ impl Lines<'_> {
         });
         others.collect()
     }
-    /// Every call on the pool at hand is refused as 2.
+    /// The calls of the tree at hand, also such as other numbers of the table are given for, are refused so.
     #[track_caller]
-    pub fn refused_by_all(&mut self) {
-        for c in [set(&[1]), Call::remove(&[1]), Call::set(&[1], 1, 1), Call::compare(&[1], Expectation::Absent, Action::Remove)] {
-            self.refused(&c, 2);
+    pub fn all_refused(&mut self, number: u64) {
+        let tree = self.tree();
+        for c in [
+            set(&[1]),
+            set(&[]),
+            Call::set(&[1], 1, 1),
+            Call::remove(&[1]),
+            Call::compare(&[1], Expectation::Absent, Action::Remove),
+            set(&[1, 2, 3, 4, 5]),
+            Call::set_each(&[1], &[], &[]),
+            Call::remove(&[2, 1]),
+        ] {
+            self.refused(&c, number);
         }
         let request = up(Bound::Unbounded, Bound::Unbounded);
-        for step in [Step::Totals, Step::Get { keys: vec![1], room: 24 }, Step::Scan { request, room: 24 }, Step::Frame { i: 0, room: 512 }] {
-            assert_eq!(self.play(&step).answers, [2]);
+        for step in [
+            Step::Totals { tree },
+            Step::Get { tree, keys: vec![1], room: 24 },
+            Step::Get { tree, keys: vec![2, 1], room: 24 },
+            Step::Scan { tree, request, room: 24 },
+            Step::Frame { tree, i: 0, room: 512 },
+            Step::Frame { tree, i: 99, room: 0 },
+        ] {
+            assert_eq!(self.play(&step).answers, [number]);
+        }
+    }
+    /// Every call on the pool at hand is refused as 2, whichever tree it names.
+    #[track_caller]
+    pub fn refused_by_all(&mut self) {
+        for tree in [2, 1, 0] {
+            self.on(tree);
+            self.all_refused(2);
         }
         self.beside(DESK);
         self.does_not_pack(2);
@@ -159,18 +207,18 @@ impl Lines<'_> {
         self.play(&Step::Put { word, value: 1 });
     }
     /// The other pool is opened; the one at hand stays so.
-    pub fn beside(&mut self, st: Settings) {
+    pub fn beside(&mut self, ps: PoolSettings) {
         self.turn();
-        self.open(st);
+        self.open(ps);
         self.turn();
     }
 
-    /// All frames of the pool, as lines; behind the last there is none.
+    /// All frames of the tree at hand, as lines; behind the last there is none.
     #[track_caller]
     fn all_frames(&mut self) -> Vec<String> {
         let mut lines = vec![];
         loop {
-            let t = self.play(&Step::Frame { i: lines.len() as u64, room: 512 });
+            let t = self.play(&Step::Frame { tree: self.tree(), i: lines.len() as u64, room: 512 });
             if t.answers == [14] {
                 return lines;
             }
@@ -195,13 +243,24 @@ impl Lines<'_> {
         assert_eq!((found.as_slice(), rest.len()), (interiors, 0));
     }
 
-    /// The kinds of the first slots, 1 of a leaf and 2 of an interior; all others are unused.
+    /// The kinds of the first slots: in tree 0, 1 of a leaf and 2 of an interior, and in tree 1, 3 and 4; 0 of an unused slot, as all others are.
     #[track_caller]
     pub fn slots_are(&mut self, kinds: &[u64]) {
-        for slot in 0..DESK.nodes {
-            let kind = word(self.pool(), HEADER + slot * slot_words(DESK.order));
+        let ps = self.settings();
+        for slot in 0..ps.nodes {
+            let kind = word(self.pool(), slot_at(&ps, slot));
             assert_eq!((slot, kind), (slot, kinds.get(slot).copied().unwrap_or(0)));
         }
+    }
+    /// These words are put into the pool at hand, where others stand.
+    pub fn write(&mut self, words: &[u64]) {
+        assert_eq!(self.pool().len(), 8 * words.len());
+        for step in written(words, self.pool()) {
+            self.play(&step);
+        }
+    }
+    pub fn put(&mut self, word: usize, value: u64) {
+        self.play(&Step::Put { word, value });
     }
 
     /// A line is read, and what was read is the same line when it is written.

@@ -1,31 +1,35 @@
 //! The comparison notices a library that is wrong in one thing.
 use oracle::before::old_sums;
-use oracle::library::{Library, RawFrame};
-use oracle::packed::entries_where_packed;
+use oracle::library::{Comparison, Library, RawFrame};
+use oracle::packed::{entries, is_packed};
 use oracle::parts::Work;
 use oracle::script::Step;
 use oracle::shrink::shrink;
 use oracle::stand_in::StandIn;
-use oracle::trees;
-use plain::pack::{is_new, packed, refusal};
-use plain::pool::{image, put, word};
-use plain::sound::{index_of, read};
-use plain::tree::{Index, Items, Node};
-use plain::{Call, Entry, Operation, Request, Settings};
+use oracle::{eight, trees};
+use plain::forest::Forest;
+use plain::pack::{self, is_new, needed, packed, seat};
+use plain::pool::{image, length, put, settings, slot_at, word, HEADER};
+use plain::refuse::{batch_refusal, descend, refusal};
+use plain::sound::{forest_of, read};
+use plain::tree::{Items, Node};
+use plain::{Call, Counts, Entry, Limits, PoolSettings, Request};
 use std::time::{Duration, Instant};
 
-/// Each fault is named once, so each is tried; those of packing show in the part of packing.
+/// Each fault is named once, so each is tried; those of packing and of soundness show in the part of packing, or of damage.
 macro_rules! faults {
-    ($($other:ident)*, of packing: $($of_packing:ident)*) => {
+    ($($other:ident)*, of packing: $($of_packing:ident)*, of soundness: $($of_soundness:ident)*) => {
         #[derive(Clone, Copy, Debug, PartialEq)]
         enum Fault {
             None,
             $($other,)*
             $($of_packing,)*
+            $($of_soundness,)*
         }
         use Fault::*;
         const OTHERS: &[Fault] = &[$($other),*];
         const OF_PACKING: &[Fault] = &[$($of_packing),*];
+        const OF_SOUNDNESS: &[Fault] = &[$($of_soundness),*];
     };
 }
 
@@ -43,7 +47,6 @@ faults! {
     OpensOneTooMany
     ListsTheDead
     HidesTheDeadFromGet
-    TakesAWordBehindTheRows
     TestsFiveFirst
     LeavesOldEntriesInAFrame
     TouchesBehindALine
@@ -52,7 +55,18 @@ faults! {
     OpensWithAnyMinimum
     CountsDeadSizes
     OpensByAllSizes
-    TakesOldSums,
+    IgnoresTheTree
+    TestsNineteenAfterThree
+    TestsNineteenFirst
+    TakesAnyTreeForASecond
+    CountsUnusedForEachTree
+    CountsWithTheOtherDepth
+    TakesTheFirstOrderForBoth
+    GivesEachTreeItsHalf
+    ScansTheOtherTree
+    GetsFromTheOtherTree
+    FramesTheOtherTree
+    TouchesTheOtherTree,
     of packing:
     LeavesOfOrderLessOne
     ShortLeafFirst
@@ -65,6 +79,18 @@ faults! {
     DeadEntriesAreNew
     TestsTheSourceAlone
     WritesTheTargetWhenRefused
+    PacksTheSecondTreeFirst
+    PacksTheFirstTreeAlone
+    ComparesTheFirstTreeAlone
+    AsksIfTheFirstIsNew
+    CountsTheFirstTreeAlone,
+    of soundness:
+    TakesAWordBehindTheRows
+    TakesOldSums
+    TakesAPoolOfOneTree
+    TakesAnyZeroWord
+    TakesEitherKind
+    CountsNodesAlone
 }
 
 struct Wrong(Fault);
@@ -74,32 +100,60 @@ impl Wrong {
         self.0 == f
     }
 
+    /// The tree that a call is taken to name, with this fault.
+    fn tree(&self, tree: u64) -> u64 {
+        match self.0 {
+            IgnoresTheTree => 0,
+            TakesAnyTreeForASecond => tree.min(1),
+            _ => tree,
+        }
+    }
+
+    /// The number of a batch on a sound pool, with this fault.
+    fn batch_refusal(&self, ps: &PoolSettings, tree: u64, c: &Call, f: &Forest) -> u32 {
+        let mut taken = *ps;
+        match self.0 {
+            TestsNineteenAfterThree if c.keys.len() > ps.larger_order() => 3,
+            TestsFiveFirst if descend(&c.keys) && c.keys.len() < 4 => 5,
+            TakesTheFirstOrderForBoth => {
+                taken.trees[1] = ps.trees[0];
+                batch_refusal(&taken, tree, c, f)
+            }
+            // as if all that the other tree does not use were its own
+            CountsUnusedForEachTree if tree < 2 => {
+                let root = &f.roots[tree as usize];
+                refusal(&ps.of(tree as usize), c, root.depth(), ps.nodes - root.nodes())
+            }
+            CountsWithTheOtherDepth if matches!(batch_refusal(ps, tree, c, f), 0 | 7) => {
+                refusal(&ps.of(tree as usize), c, f.roots[1 - tree as usize].depth(), f.unused.len())
+            }
+            _ => batch_refusal(ps, tree, c, f),
+        }
+    }
+
     /// A batch, with this fault.
-    fn done(&self, pool: &mut [u8], c: &Call, counts: &mut [u64; 4]) -> u32 {
+    fn done(&self, pool: &mut [u8], tree: u64, c: &Call, counts: &mut [u64; 4]) -> u32 {
         let before = pool.to_vec();
         if self.is(RefusesAll) {
             return 7;
         }
-        if self.is(TestsFiveFirst) && plain::refuse::descend(&c.keys) && c.keys.len() < 4 {
-            return 5;
+        if self.is(TestsNineteenFirst) && tree > 1 {
+            return 19;
         }
-        if let (true, Some((st, mut x))) = (self.is(TakesHighestSlot), index_of(pool)) {
-            if plain::refuse::refusal(&st, c, &x) == 0 {
-                x.unused.reverse();
-                let (x, told) = plain::change::batch(&st, c, x);
-                pool.copy_from_slice(&image(&st, &x));
-                *counts = told.numbers();
-                return 0;
-            }
+        let tree = self.tree(tree);
+        let Some((ps, mut f)) = forest_of(pool) else { return 2 };
+        let number = self.batch_refusal(&ps, tree, c, &f);
+        if number == 0 {
+            *counts = self.changed(&ps, tree as usize, c, &mut f).numbers();
+            pool.copy_from_slice(&image(&ps, &f));
         }
-        let number = StandIn.batch(pool, c, counts);
         match (self.0, number) {
             (StoresNothing, 0) => pool.copy_from_slice(&before),
             (CountsReplacedAsAdded, 0) => *counts = [counts[0] + counts[1], 0, counts[2], counts[3]],
             (TellsCountsWhenRefused, 5) => *counts = [0; 4],
             (ChangesPoolWhenRefused, 7) => pool[0] ^= 1,
             (LeavesAFreedWord, 0) if counts[2] > 0 => {
-                let freed = (4..pool.len() / 8).rev().find(|&i| word(pool, i) == 0 && word(&before, i) != 0);
+                let freed = (HEADER..pool.len() / 8).rev().find(|&i| word(pool, i) == 0 && word(&before, i) != 0);
                 if let Some(i) = freed {
                     put(pool, i, word(&before, i));
                 }
@@ -110,41 +164,145 @@ impl Wrong {
         number
     }
 
-    /// The refusal of a packing, with this fault.
-    fn pack_refusal(&self, st: &Settings, su: &Settings, x: &Index, y: &Index) -> u32 {
-        let nodes = packed(su.order, &x.entries()).nodes();
+    /// What a batch that is done does, with this fault.
+    fn changed(&self, ps: &PoolSettings, tree: usize, c: &Call, f: &mut Forest) -> Counts {
+        let mut x = f.take(tree);
         match self.0 {
-            ComparesOrdersAlone if st.order == su.order => refusal(su, su, x, y),
+            TakesHighestSlot => x.unused.reverse(),
+            // slots go out by halves: the lower one to tree 0, the upper one to tree 1
+            GivesEachTreeItsHalf => x.unused.sort_by_key(|&slot| (slot < ps.nodes / 2) == (tree == 1)),
+            _ => {}
+        }
+        let (x, counts) = plain::change::batch(&ps.of(tree), c, x);
+        f.replant(tree, x);
+        f.unused.sort_unstable();
+        if let (TouchesTheOtherTree, Items::Entries(es)) = (self.0, &mut f.roots[1 - tree].items) {
+            es.iter_mut().for_each(|e| e.place = e.place.max(1));
+        }
+        counts
+    }
+
+    /// The refusal of a packing, with this fault.
+    fn pack_refusal(&self, ps: &PoolSettings, pu: &PoolSettings, x: &Forest, y: &Forest) -> u32 {
+        let right = pack::refusal(ps, pu, x, y);
+        let nodes = needed(pu, x);
+        let orders = |ps: &PoolSettings| ps.trees.map(|l| l.order);
+        match self.0 {
+            ComparesOrdersAlone if orders(ps) == orders(pu) => pack::refusal(pu, pu, x, y),
+            ComparesTheFirstTreeAlone if ps.trees[0] == pu.trees[0] => pack::refusal(pu, pu, x, y),
             AsksIfNewFirst if !is_new(y) => 18,
-            AsksForRoomFirst if su.nodes < nodes && refusal(st, su, x, y) == 18 => 7,
-            AsksForANodeMore if su.nodes == nodes && refusal(st, su, x, y) == 0 => 7,
-            DeadEntriesAreNew if y.root.totals().live == 0 => refusal(st, su, x, &Index::new(su.nodes)),
-            _ => refusal(st, su, x, y),
+            AsksIfTheFirstIsNew if right == 18 && y.roots[0].is_empty() => 0,
+            AsksForRoomFirst if pu.nodes < nodes && right == 18 => 7,
+            AsksForANodeMore if pu.nodes == nodes && right == 0 => 7,
+            CountsTheFirstTreeAlone if right == 7 && pu.nodes > packed(pu.trees[0].order, &x.roots[0].entries()).nodes() => 0,
+            DeadEntriesAreNew if y.roots.iter().all(|root| root.totals().live == 0) => pack::refusal(ps, pu, x, &Forest::new(pu.nodes)),
+            _ => right,
+        }
+    }
+
+    /// One packed tree, its slots not given out yet, with this fault.
+    fn packed_tree(&self, tree: usize, order: usize, es: Vec<Entry>) -> Node {
+        match self.0 {
+            LeavesOfOrderLessOne => packed(order - 1, &es),
+            ShortLeafFirst if !es.is_empty() => {
+                let (short, full) = es.split_at((es.len() - 1) % order + 1);
+                let mut level: Vec<Node> = std::iter::once(short).chain(full.chunks(order)).map(|part| Node::leaf(0, part.to_vec())).collect();
+                while level.len() > 1 {
+                    level = level.chunks(order).map(|part| Node::interior(0, part.to_vec())).collect();
+                }
+                level.remove(0)
+            }
+            PacksTheLiveAlone => packed(order, &es.into_iter().filter(|e| e.place != 0).collect::<Vec<_>>()),
+            PacksTheFirstTreeAlone if tree == 1 => trees::empty(),
+            _ => packed(order, &es),
         }
     }
 
     /// What is packed, with this fault.
-    fn packed(&self, su: &Settings, x: &Index) -> Index {
-        let es = x.entries();
-        let mut root = match self.0 {
-            LeavesOfOrderLessOne => packed(su.order - 1, &es),
-            ShortLeafFirst if !es.is_empty() => {
-                let (short, full) = es.split_at((es.len() - 1) % su.order + 1);
-                let mut level: Vec<Node> = std::iter::once(short).chain(full.chunks(su.order)).map(|part| Node::leaf(0, part.to_vec())).collect();
-                while level.len() > 1 {
-                    level = level.chunks(su.order).map(|part| Node::interior(0, part.to_vec())).collect();
-                }
-                trees::placed(level.remove(0), su.nodes, Option::None).root
+    fn packed(&self, pu: &PoolSettings, x: &Forest) -> Forest {
+        let mut roots = [0, 1].map(|tree| self.packed_tree(tree, pu.trees[tree].order, x.roots[tree].entries()));
+        let mut next = 2;
+        let order = if self.is(PacksTheSecondTreeFirst) { [1, 0] } else { [0, 1] };
+        for tree in order {
+            if self.is(NumbersLevelByLevel) {
+                number_by_level(&mut roots[tree], tree, &mut next);
+            } else {
+                seat(&mut roots[tree], tree, &mut next);
             }
-            PacksTheLiveAlone => packed(su.order, &es.into_iter().filter(|e| e.place != 0).collect::<Vec<_>>()),
-            _ => packed(su.order, &es),
-        };
-        if self.is(NumbersLevelByLevel) {
-            number_by_level(&mut root);
         }
-        let used = root.nodes();
-        Index { root, unused: (used..su.nodes).collect() }
+        Forest { roots, unused: (next..pu.nodes).collect() }
     }
+
+    /// The pool that a call is taken to be lent, with this fault: one that is sound, where it takes this one for sound.
+    fn taken(&self, pool: &[u8]) -> Vec<u8> {
+        let mut mended = pool.to_vec();
+        match self.0 {
+            TakesAWordBehindTheRows if pool.len() >= 8 => put(&mut mended, pool.len() / 8 - 1, 0),
+            TakesAnyZeroWord if pool.len() >= 64 => [4, 7].into_iter().for_each(|at| put(&mut mended, at, 0)),
+            TakesOldSums => {
+                let with_old_sums = |ps: &PoolSettings, f: &Forest| {
+                    let mut old = image(ps, f);
+                    for step in old_sums(ps, f) {
+                        if let Step::Put { word, value } = step {
+                            put(&mut old, word, value);
+                        }
+                    }
+                    old
+                };
+                if let Some((ps, f)) = read(pool).filter(|(ps, f)| with_old_sums(ps, f) == pool) {
+                    mended = image(&ps, &f);
+                }
+            }
+            TakesAPoolOfOneTree => mended = of_one_tree(pool).unwrap_or(mended),
+            TakesEitherKind => mended = with_kinds(pool).unwrap_or(mended),
+            CountsNodesAlone => mended = with_even_numbers(pool).unwrap_or(mended),
+            _ => {}
+        }
+        mended
+    }
+}
+
+/// A pool of layout 1 as one of two trees, the second an empty leaf. Where the first slot behind the root is in use it is left alone.
+fn of_one_tree(pool: &[u8]) -> Option<Vec<u8>> {
+    let words: Vec<u64> = pool.chunks_exact(8).map(|w| u64::from_le_bytes(w.try_into().expect("eight"))).collect();
+    let &[1, nodes, order, minimum, ..] = &words[..] else { return Option::None };
+    let width = 2 + 6 * usize::try_from(order).ok()?;
+    if words.len() != 4 + usize::try_from(nodes).ok()? * width || words.get(4 + width) != Some(&0) {
+        return Option::None;
+    }
+    let mut mended = vec![2, nodes, order, minimum, 0, order, minimum, 0];
+    mended.extend(&words[4..]);
+    mended[8 + width] = 3;
+    Some(mended.into_iter().flat_map(u64::to_le_bytes).collect())
+}
+
+/// A pool in which what is reached from a root has this root's kinds.
+fn with_kinds(pool: &[u8]) -> Option<Vec<u8>> {
+    let ps = settings([1, 2, 3, 5, 6].map(|at| if pool.len() >= 64 { word(pool, at) } else { 0 })).filter(|ps| length(ps) == pool.len())?;
+    let mut mended = pool.to_vec();
+    for tree in 0..2 {
+        let mut slots = vec![tree];
+        let mut seen = 0;
+        while let Some(slot) = slots.pop().filter(|&slot| slot < ps.nodes && seen < ps.nodes) {
+            seen += 1;
+            let at = slot_at(&ps, slot);
+            let (kind, count) = (word(pool, at), word(pool, at + 1).min(ps.larger_order() as u64) as usize);
+            if (1..=4).contains(&kind) {
+                put(&mut mended, at, (kind + 1) % 2 + 1 + 2 * tree as u64);
+            }
+            if kind % 2 == 0 {
+                slots.extend((0..count).map(|i| (word(pool, at + 3 + 3 * i) >> 40) as usize));
+            }
+        }
+    }
+    Some(mended)
+}
+
+/// The eight-node pool as one that is sound: the leaf that nobody names goes, and each tree has a leaf of its own.
+fn with_even_numbers(pool: &[u8]) -> Option<Vec<u8>> {
+    let bytes = |words: Vec<u64>| words.into_iter().flat_map(u64::to_le_bytes).collect::<Vec<u8>>();
+    eight::KINDS.into_iter().find(|&(second, fifth)| bytes(eight::words(second, fifth)) == pool)?;
+    Some(image(&PoolSettings::alike(8, 4, 2), &Forest::new(8)))
 }
 
 /// No entry is dead, so each size counts.
@@ -155,16 +313,18 @@ fn revive(n: &mut Node) {
     }
 }
 
-fn number_by_level(root: &mut Node) {
-    let mut next = 0;
+fn number_by_level(root: &mut Node, slot: usize, next: &mut usize) {
+    root.slot = slot;
     let mut level = vec![root];
     while !level.is_empty() {
         let mut below = vec![];
         for n in level {
-            n.slot = next;
-            next += 1;
             if let Items::Nodes(ns) = &mut n.items {
-                below.extend(ns);
+                for n in ns {
+                    n.slot = *next;
+                    *next += 1;
+                    below.push(n);
+                }
             }
         }
         level = below;
@@ -175,49 +335,38 @@ impl Library for Wrong {
     fn name(&self) -> String {
         format!("{:?}", self.0)
     }
-    fn pool_len(&self, nodes: u64, order: u64, minimum: u64) -> u64 {
-        StandIn.pool_len(nodes, order, minimum)
+    fn pool_len(&self, settings: [u64; 5]) -> u64 {
+        StandIn.pool_len(settings)
     }
-    fn open(&self, pool: &mut [u8], nodes: u64, order: u64, minimum: u64) -> u32 {
-        StandIn.open(pool, nodes, order, if self.is(OpensWithAnyMinimum) { 1 } else { minimum })
+    fn open(&self, pool: &mut [u8], mut settings: [u64; 5]) -> u32 {
+        if self.is(OpensWithAnyMinimum) {
+            settings[4] = 1;
+        }
+        StandIn.open(pool, settings)
     }
-    fn totals(&self, pool: &[u8], totals: &mut [u64; 3]) -> u32 {
-        let mut mended = pool.to_vec();
-        if self.is(TakesAWordBehindTheRows) && pool.len() >= 8 {
-            let last = pool.len() / 8 - 1;
-            put(&mut mended, last, 0);
-        }
-        if let (true, Some((st, x))) = (self.is(TakesOldSums), read(pool)) {
-            let current = image(&st, &x);
-            mended.clone_from(&current);
-            for step in old_sums(&st, &x) {
-                if let Step::Put { word, value } = step {
-                    put(&mut mended, word, value);
-                }
-            }
-            mended = if mended == pool { current } else { pool.to_vec() };
-        }
-        let number = StandIn.totals(&mended, totals);
+    fn totals(&self, pool: &[u8], tree: u64, totals: &mut [u64; 3]) -> u32 {
+        let number = StandIn.totals(&self.taken(pool), self.tree(tree), totals);
         if self.is(CountsDeadSizes) && number == 0 {
-            let x = index_of(pool).expect("sound").1;
-            totals[2] = x.entries().iter().map(|e| u64::from(e.size)).sum();
+            let f = forest_of(pool).expect("sound").1;
+            totals[2] = f.roots[tree as usize].entries().iter().map(|e| u64::from(e.size)).sum();
         }
         number
     }
-    fn set(&self, pool: &mut [u8], keys: &[u64], place: u64, size: u32, counts: &mut [u64; 4]) -> u32 {
-        self.done(pool, &Call::set(keys, place, size), counts)
+    fn set(&self, pool: &mut [u8], tree: u64, keys: &[u64], place: u64, size: u32, counts: &mut [u64; 4]) -> u32 {
+        self.done(pool, tree, &Call::set(keys, place, size), counts)
     }
-    fn set_each(&self, pool: &mut [u8], keys: &[u64], places: &[u64], sizes: &[u32], counts: &mut [u64; 4]) -> u32 {
-        self.done(pool, &Call::set_each(keys, places, sizes), counts)
+    fn set_each(&self, pool: &mut [u8], tree: u64, keys: &[u64], places: &[u64], sizes: &[u32], counts: &mut [u64; 4]) -> u32 {
+        self.done(pool, tree, &Call::set_each(keys, places, sizes), counts)
     }
-    fn remove(&self, pool: &mut [u8], keys: &[u64], counts: &mut [u64; 4]) -> u32 {
-        self.done(pool, &Call { operation: Operation::Remove, ..Call::remove(keys) }, counts)
+    fn remove(&self, pool: &mut [u8], tree: u64, keys: &[u64], counts: &mut [u64; 4]) -> u32 {
+        self.done(pool, tree, &Call::remove(keys), counts)
     }
-    fn compare(&self, pool: &mut [u8], keys: &[u64], expected: Option<(u64, u32)>, action: Option<(u64, u32)>, counts: &mut [u64; 4]) -> u32 {
-        StandIn.compare(pool, keys, expected, action, counts)
+    fn compare(&self, pool: &mut [u8], tree: u64, keys: &[u64], how: Comparison, counts: &mut [u64; 4]) -> u32 {
+        StandIn.compare(pool, tree, keys, how, counts)
     }
-    fn get(&self, pool: &[u8], keys: &[u64], out: &mut [u8], told: &mut [u64; 2]) -> u32 {
-        let number = StandIn.get(pool, keys, out, told);
+    fn get(&self, pool: &[u8], tree: u64, keys: &[u64], out: &mut [u8], told: &mut [u64; 2]) -> u32 {
+        let tree = if self.is(GetsFromTheOtherTree) && tree < 2 { 1 - tree } else { self.tree(tree) };
+        let number = StandIn.get(pool, tree, keys, out, told);
         if number == 0 {
             let n = 24 * told[0] as usize;
             match self.0 {
@@ -229,26 +378,28 @@ impl Library for Wrong {
         }
         number
     }
-    fn scan(&self, pool: &[u8], q: &Request, out: &mut [u8], told: &mut [u64; 3]) -> u32 {
-        let number = StandIn.scan(pool, q, out, told);
+    fn scan(&self, pool: &[u8], tree: u64, q: &Request, out: &mut [u8], told: &mut [u64; 3]) -> u32 {
+        let tree = if self.is(ScansTheOtherTree) && tree < 2 { 1 - tree } else { self.tree(tree) };
+        let number = StandIn.scan(pool, tree, q, out, told);
+        if number != 0 {
+            return number;
+        }
+        let mut root = forest_of(pool).expect("sound").1.take(tree as usize).root;
         match self.0 {
-            OpensOneTooMany if number == 0 && q.down && told[1] == 1 => told[2] += 1,
-            ListsTheDead if number == 0 => {
-                let x = index_of(pool).expect("sound").1;
-                told[0] = told[0].max((x.entries().len() as u64).min(out.len() as u64 / 24).min(1));
-            }
+            OpensOneTooMany if q.down && told[1] == 1 => told[2] += 1,
+            ListsTheDead => told[0] = told[0].max((root.entries().len() as u64).min(out.len() as u64 / 24).min(1)),
             // where no more is due each node that is entered counts
-            OpensByAllSizes if number == 0 && told[1] == 0 => {
-                let mut x = index_of(pool).expect("sound").1;
-                revive(&mut x.root);
-                told[2] = plain::look::scan(q, usize::MAX, &x).opened;
+            OpensByAllSizes if told[1] == 0 => {
+                revive(&mut root);
+                told[2] = plain::look::scan(q, usize::MAX, &root).opened;
             }
             _ => {}
         }
         number
     }
-    fn frame(&self, pool: &[u8], i: u64, line: &mut [u8], len: &mut u64) -> u32 {
-        let number = StandIn.frame(pool, i, line, len);
+    fn frame(&self, pool: &[u8], tree: u64, i: u64, line: &mut [u8], len: &mut u64) -> u32 {
+        let tree = if self.is(FramesTheOtherTree) && tree < 2 { 1 - tree } else { self.tree(tree) };
+        let number = StandIn.frame(pool, tree, i, line, len);
         if self.is(TouchesBehindALine) && number == 0 && line.len() > *len as usize {
             line[*len as usize] = b'\n';
         }
@@ -273,19 +424,19 @@ impl Library for Wrong {
         StandIn.write_interior(count, f, line, len)
     }
     fn pack(&self, source: &[u8], target: &mut [u8]) -> u32 {
-        let Some((st, x)) = index_of(source) else { return 2 };
-        let Some((su, y)) = index_of(target) else { return if self.is(TestsTheSourceAlone) { 18 } else { 2 } };
-        match self.pack_refusal(&st, &su, &x, &y) {
+        let Some((ps, x)) = forest_of(source) else { return 2 };
+        let Some((pu, y)) = forest_of(target) else { return if self.is(TestsTheSourceAlone) { 18 } else { 2 } };
+        match self.pack_refusal(&ps, &pu, &x, &y) {
             0 => {
-                let y = self.packed(&su, &x);
-                if y.root.nodes() <= su.nodes {
-                    target.copy_from_slice(&image(&su, &y));
+                let y = self.packed(&pu, &x);
+                if y.nodes() <= pu.nodes {
+                    target.copy_from_slice(&image(&pu, &y));
                 }
                 0
             }
             n => {
                 if self.is(WritesTheTargetWhenRefused) && n == 7 {
-                    target[8 * 4] ^= 1;
+                    target[8 * HEADER] ^= 1;
                 }
                 n
             }
@@ -293,12 +444,23 @@ impl Library for Wrong {
     }
 }
 
-/// The difference that the parts find, each within a second or so; of a fault of packing, its own part alone.
+/// How the name of the part begins that shows a fault; of all parts where it may be any.
+fn part_of(f: Fault) -> &'static str {
+    if OF_PACKING.contains(&f) {
+        "packing"
+    } else if OF_SOUNDNESS.contains(&f) {
+        "damaged"
+    } else {
+        ""
+    }
+}
+
+/// The difference that the parts find, each within a second or so.
 fn noticed(f: Fault) -> Option<String> {
     let lib = Wrong(f);
     let mut work = Work::new(&lib, 3, false);
     for (what, _, part) in Work::parts() {
-        if OF_PACKING.contains(&f) && !what.starts_with("packing") {
+        if !what.starts_with(part_of(f)) {
             continue;
         }
         if let Err((script, difference)) = part(&mut work, Instant::now() + Duration::from_millis(700)) {
@@ -313,7 +475,7 @@ fn noticed(f: Fault) -> Option<String> {
 
 #[test]
 fn each_fault_is_noticed() {
-    for &f in OTHERS.iter().chain(OF_PACKING) {
+    for &f in OTHERS.iter().chain(OF_PACKING).chain(OF_SOUNDNESS) {
         let found = noticed(f);
         println!("{f:?}: {}", found.as_deref().unwrap_or("NOT NOTICED"));
         assert!(found.is_some(), "{f:?} is not noticed");
@@ -328,12 +490,15 @@ fn no_fault_none_noticed() {
 /// What is asked of a packed pool is seen in its bytes, without the plain rules.
 #[test]
 fn bytes_tell_what_is_packed() {
-    let st = Settings { nodes: 16, order: 4, minimum: 2 };
-    let es: Vec<Entry> = (1..=18).map(|key| Entry { key, place: key, size: 1 }).collect();
-    let x = Index { root: packed(4, &es), unused: vec![] };
-    let seen = |f: Fault| entries_where_packed(&image(&st, &Wrong(f).packed(&st, &x)));
-    assert_eq!(seen(None), Ok(oracle::stand_in::entry_bytes(&es)));
-    for f in [LeavesOfOrderLessOne, ShortLeafFirst, NumbersLevelByLevel] {
+    let ps = PoolSettings { nodes: 24, trees: [Limits { order: 4, minimum: 2 }, Limits { order: 5, minimum: 2 }] };
+    let lists = [18, 22].map(|n| (1..=n).map(|key| Entry { key, place: key, size: 1 }).collect::<Vec<_>>());
+    let x = Forest { roots: [0, 1].map(|tree| packed(ps.trees[tree].order, &lists[tree])), unused: vec![] };
+    let seen = |f: Fault| is_packed(&image(&ps, &Wrong(f).packed(&ps, &x)));
+    assert_eq!(seen(None), Ok(()));
+    for (tree, list) in lists.iter().enumerate() {
+        assert_eq!(entries(&image(&ps, &Wrong(None).packed(&ps, &x)), tree), oracle::stand_in::entry_bytes(list));
+    }
+    for f in [LeavesOfOrderLessOne, ShortLeafFirst, NumbersLevelByLevel, PacksTheSecondTreeFirst] {
         assert!(seen(f).is_err(), "{f:?} is not seen");
     }
 }

@@ -7,7 +7,7 @@ use libc::STDIN_FILENO;
 use libc::STDOUT_FILENO;
 
 fn main() {
-    let mut pool = [0u8; 3360];
+    let mut pool = [0u8; 3392];
     let mut line = [0u8; 255];
     let mut kept: usize = 0;
     let mut reads = u64::MAX;
@@ -35,7 +35,7 @@ struct Served {
 }
 
 // One read from standard input, and the answers to the lines that end in it.
-fn serve_read(pool: &mut [u8; 3360], line: &mut [u8; 255], kept: usize) -> Served {
+fn serve_read(pool: &mut [u8; 3392], line: &mut [u8; 255], kept: usize) -> Served {
     let mut part = io::buffer();
     let got = libc::read(STDIN_FILENO, &mut part);
     if got < 0 {
@@ -60,7 +60,7 @@ fn unread(kept: usize) -> Served {
 }
 
 // Answers the lines that end in a part of the text. A write that fails ends the program.
-fn serve(pool: &mut [u8; 3360], line: &mut [u8; 255], had: usize, part: &[u8]) -> Served {
+fn serve(pool: &mut [u8; 3392], line: &mut [u8; 255], had: usize, part: &[u8]) -> Served {
     let mut text = [0u8; 4096];
     let mut kept = had;
     let mut from = 0;

@@ -22,7 +22,7 @@ const MALFORMED: u32 = 15;
 
 // Answers the line of which `n` bytes are kept (more than 255: it was too long) with a text in the first bytes of `text`, and tells its
 // length.
-pub fn answer(pool: &mut [u8; 3360], line: &[u8; 255], n: usize, text: &mut [u8; 4096]) -> usize
+pub fn answer(pool: &mut [u8; 3392], line: &[u8; 255], n: usize, text: &mut [u8; 4096]) -> usize
     ensures { λ r. ⌜ Answers (ordered (held (record { count = n; bytes = now (line .entry) }))) (now (pool .entry)) (now (text .entry))
         (record { count = r; pool = now (pool .exit); text = now (text .exit) }) ⌝ }
 {
@@ -41,7 +41,7 @@ pub fn answer(pool: &mut [u8; 3360], line: &[u8; 255], n: usize, text: &mut [u8;
 }
 
 // The batch that a `set` of `m` rows asks for.
-fn set_rows(pool: &mut [u8; 3360], read: Reading, m: usize, text: &mut [u8; 4096]) -> usize
+fn set_rows(pool: &mut [u8; 3392], read: Reading, m: usize, text: &mut [u8; 4096]) -> usize
     requires { ⌜ (m ≤ length (read .keys)) × (m ≤ length (read .places)) × (m ≤ length (read .sizes)) ⌝ }
     ensures { λ r. ⌜ Changes
         (record { operation = SetEach; places = take m (read .places); sizes = take m (read .sizes); keys = take m (read .keys) })
@@ -61,7 +61,7 @@ fn set_rows(pool: &mut [u8; 3360], read: Reading, m: usize, text: &mut [u8; 4096
 }
 
 // The batch that a `drop` of `m` keys asks for.
-fn drop_keys(pool: &mut [u8; 3360], read: Reading, m: usize, text: &mut [u8; 4096]) -> usize
+fn drop_keys(pool: &mut [u8; 3392], read: Reading, m: usize, text: &mut [u8; 4096]) -> usize
     requires { ⌜ m ≤ length (read .keys) ⌝ }
     ensures { λ r. ⌜ Changes (record { operation = Remove; places = []; sizes = []; keys = take m (read .keys) })
         (now (pool .entry)) (now (text .entry)) (record { count = r; pool = now (pool .exit); text = now (text .exit) }) ⌝ }

@@ -6,7 +6,7 @@ use desk_promise::Taken;
 // Keeps the part of a line that stands first in the rest of a text, behind the `n` bytes that are kept of it. Where the line ends there
 // it is answered on the pool, and nothing is kept.
 pub fn take_part(
-    pool: &mut [u8; 3360],
+    pool: &mut [u8; 3392],
     line: &mut [u8; 255],
     n: usize,
     rest: &[u8],

@@ -1,4 +1,4 @@
--- The frames of the desk's pool have room in its text: at most 16 nodes, and an entry of order more makes fewer of them. Assumes nothing.
+-- The frames of the desk's tree have room in its text: at most 16 nodes, and an entry of order more makes fewer of them. Assumes nothing.
 use Prim.Native.Nat.{ℕ, zero, suc, _+_, _*_, _≤_}
 use native.Mathlib.Omega.{arith}
 use native.Mathlib.Nat.{suc-mul, mul-le-mul-right, mul-le-mul-left, mul-add, mul-left-comm}
@@ -9,7 +9,8 @@ use Rattle.model.specs.declared.Settings.{Settings}
 use Rattle.model.specs.Lists.{All, none, one}
 use Rattle.model.specs.Tree.{Tree, len}
 use Rattle.model.specs.Frame.{Frame, leaf, interior, nodesIn, branches, inTurn, framesFrom, framesOf, lineOf}
-use Rattle.model.specs.Sound.{Whole, Alone}
+use Rattle.model.specs.Sound.{Whole, Sound}
+use Rattle.model.specs.Forest.{elsewhere}
 use Rattle.model.proofs.Lists.{all-append, all-head, all-tail, all-map}
 use Rattle.model.proofs.Layers.{handed-roomy}
 use Rattle.model.proofs.Trees.{root-few, used-most}
@@ -19,7 +20,7 @@ use Rattle.frame_text.specs.Contents.{ofEntry, ofBranch, contentsOf}
 use Rattle.frame_text.proofs.Coded.{line-long}
 use Rattle.frame.proofs.Noded.{frame-contents}
 use Rattle.frame.proofs.Walks.{frames-long}
-use Rattle.tree.specs.Pool.{SoundPool, givenIn, settingsIn, indexOf}
+use Rattle.tree.specs.Pool.{SoundPool, givenIn, settingsIn, indexOf, forestOf}
 use Rattle.tree.proofs.Pools.{sound-index}
 use Rattle.desk_promise.specs.Replies.{frameText, dumpText}
 
@@ -61,31 +62,31 @@ text-short w [] none = omega arith
 text-short w (f ∷ fs) (one h hs) = omega (arith, h, text-short w fs hs, length-append (frameText f) (dumpText fs), suc-mul (length fs) w)
 
 -- THE DESK'S POOL
-module _ (l : List ℕ) (s : SoundPool l) (long : length l ≡ 3360) where
+module _ (l : List ℕ) (s : SoundPool l) (long : length l ≡ 3392) where
   abbrev st : Settings
-  st = settingsIn l
+  st = settingsIn l 0
 
   abbrev fs : List Frame
-  fs = framesOf (indexOf l)
+  fs = framesOf (indexOf l 0)
 
-  index : Alone st (indexOf l)
-  index = sound-index l s
+  index : Sound st (elsewhere 0 (forestOf l)) (indexOf l 0)
+  index = sound-index l s 0
 
   times : (a b c : ℕ) → st .nodes * (a + b * c) ≡ st .nodes * a + b * (st .nodes * c)
   times a b c = mul-add (st .nodes) a (b * c) ∙ ap (st .nodes * a +_) (mul-left-comm (st .nodes) b c)
 
   -- slots for nodes of at least four rows, in 416 words
   roomy : 2 * (st .nodes * st .order) ≤ st .nodes * st .rows
-  roomy = omega (arith, mul-le-mul-left (st .nodes) (handed-roomy (givenIn l)), mul-left-comm (st .nodes) 2 (st .order))
+  roomy = omega (arith, mul-le-mul-left (st .nodes) (handed-roomy (givenIn l) 0), mul-left-comm (st .nodes) 2 (st .order))
 
   sized : st .nodes * 2 + 6 * (st .nodes * st .order) ≤ 416
   sized = omega (arith, long, s .exact, times 2 3 (st .rows), roomy)
 
   four : st .nodes * 4 ≤ st .nodes * st .order
-  four = mul-le-mul-left (st .nodes) (s .settings .wide)
+  four = mul-le-mul-left (st .nodes) (s .settings .0 .wide)
 
   many : length fs ≤ st .nodes
-  many = omega (arith, frames-long (indexOf l .height) 0 (indexOf l .root), used-most st (indexOf l) index)
+  many = omega (arith, frames-long (indexOf l 0 .height) 0 (indexOf l 0 .root), used-most st (indexOf l 0) index)
 
   pub frames-16 : length fs ≤ 16
   frames-16 = omega (arith, many, sized, four)
@@ -95,5 +96,5 @@ module _ (l : List ℕ) (s : SoundPool l) (long : length l ≡ 3360) where
       let w = 3 + 56 * st .order in
       let short : All (λ f. length (frameText f) ≤ w) fs =
       all-map (line-short (st .order))
-      (frames-few st (indexOf l .height) 0 (indexOf l .root) (root-few st (indexOf l .height) (indexOf l .root) (index .rooted)) (index .whole)) in
+      (frames-few st (indexOf l 0 .height) 0 (indexOf l 0 .root) (root-few st (indexOf l 0 .height) (indexOf l 0 .root) (index .rooted)) (index .whole)) in
       omega (arith, text-short w fs short, mul-le-mul-right w many, times 3 56 (st .order), sized)

@@ -31,7 +31,7 @@ use Rattle.desk_dump.proofs.Rooms.{frames-16, frames-fit}
 record Drawn (l : List ℕ) (i n : ℕ) (line line′ : List ℕ) : Type 0 where
   frame : Frame
   sound : SoundPool l
-  found : getElem? (framesOf (indexOf l)) i ≡ some frame
+  found : getElem? (framesOf (indexOf l 0)) i ≡ some frame
   count : n ≡ length (lineOf frame)
   room : length (lineOf frame) ≤ length line
   bytes : line′ ≡ lineOf frame ++ drop (length (lineOf frame)) line
@@ -39,17 +39,17 @@ record Drawn (l : List ℕ) (i n : ℕ) (line line′ : List ℕ) : Type 0 where
 -- .. or it is not, and then the line is as it was
 data Undrawn (l : List ℕ) (i m : ℕ) (line : List ℕ) : Type 0 where
   unsound : (SoundPool l → ⊥) → m ≡ 2 → Undrawn l i m line
-  past : SoundPool l → m ≡ 14 → getElem? (framesOf (indexOf l)) i ≡ none → Undrawn l i m line
-  short : SoundPool l → m ≡ 16 → (f : Frame) → getElem? (framesOf (indexOf l)) i ≡ some f → length line < length (lineOf f) → Undrawn l i m line
+  past : SoundPool l → m ≡ 14 → getElem? (framesOf (indexOf l 0)) i ≡ none → Undrawn l i m line
+  short : SoundPool l → m ≡ 16 → (f : Frame) → getElem? (framesOf (indexOf l 0)) i ≡ some f → length line < length (lineOf f) → Undrawn l i m line
 
 module _ (l : List ℕ) (i : ℕ) (line line′ : List ℕ) where
   abbrev fs : List Frame
-  fs = framesOf (indexOf l)
+  fs = framesOf (indexOf l 0)
 
   abbrev left : Answer (List ℕ) → Left ℕ
   left a = leaves length (λ s. s ++ drop (length s) line) line a
 
-  drawn : (n : ℕ) → Frames l i line (Write.Done n) line′ → Drawn l i n line line′
+  drawn : (n : ℕ) → Frames l 0 i line (Write.Done n) line′ → Drawn l i n line line′
   drawn n (fails u e) = absurd (refused-done 2 n (sym (ap (λ (w : Left ℕ). w .answer) e)))
   drawn n (holds s e) = by (getElem? fs i) refl e
     where
@@ -73,7 +73,7 @@ module _ (l : List ℕ) (i : ℕ) (line line′ : List ℕ) where
       by none q e = absurd (refused-done 14 n (sym (ap (λ (w : Left ℕ). w .answer) e)))
       by (some f) q e = fit f (ltb (length line) (length (lineOf f))) q refl e
 
-  undrawn : (m : ℕ) → Frames l i line (Write.Refused m) line′ → (line′ ≡ line) × Undrawn l i m line
+  undrawn : (m : ℕ) → Frames l 0 i line (Write.Refused m) line′ → (line′ ≡ line) × Undrawn l i m line
   undrawn m (fails u e) = (ap (λ (w : Left ℕ). w .bytes) e, unsound u (told (ap (λ (w : Left ℕ). w .answer) e)))
     where
       told : _≡_ {A = Answer ℕ} (refused m) (refused 2) → m ≡ 2
@@ -102,9 +102,9 @@ rest-put t at line =
     ap (λ x. take at t ++ (line ++ x)) over ∙ ap (take at t ++_) (append-nil line)
 
 pub of-the-rest : (l : List ℕ) (i : ℕ) {r q : WriteAnswer} (t : List ℕ) (at : ℕ) {line′ : List ℕ} → r ≡ q
-    → Frames l i (take (length t - at) (drop at t)) r line′
-    → Frames l i (drop at t) q line′
-of-the-rest l i {r} t at {line′} e f = subst (λ q. Frames l i (drop at t) q line′) e (subst (λ line. Frames l i line r line′) (rest t at) f)
+    → Frames l 0 i (take (length t - at) (drop at t)) r line′
+    → Frames l 0 i (drop at t) q line′
+of-the-rest l i {r} t at {line′} e f = subst (λ q. Frames l 0 i (drop at t) q line′) e (subst (λ line. Frames l 0 i line r line′) (rest t at) f)
 
 -- THE FRAMES BEFORE IT
 
@@ -139,24 +139,24 @@ part-fits fs i =
 
 module _ (l t₀ : List ℕ) where
   abbrev all : List Frame
-  all = framesOf (indexOf l)
+  all = framesOf (indexOf l 0)
 
   -- so many frames stand in the text t, and end before a place
   pub record Shown (t : List ℕ) (at i : ℕ) : Type 0 where
-    pub long : length l ≡ 3360
+    pub long : length l ≡ 3392
     pub room : length t₀ ≡ 4096
     pub sound : (i ≡ 0) ⊎ SoundPool l
     pub put : Put 0 (dumpText (take i all)) t₀ at t
     pub inside : at ≤ length t
     pub same : length t ≡ length t₀
 
-  pub none-shown : length l ≡ 3360 → length t₀ ≡ 4096 → Shown t₀ 0 0
+  pub none-shown : length l ≡ 3392 → length t₀ ≡ 4096 → Shown t₀ 0 0
   none-shown a b =
       record { long = a; room = b; sound = inl refl; put = record { room = omega arith; ends = refl; bytes = refl }; inside = omega arith; same = refl }
 
   module _ {t : List ℕ} {at i : ℕ} (h : Shown t at i) where
     -- one more
-    module _ {n : ℕ} {line′ : List ℕ} (f : Frames l i (drop at t) (Write.Done n) line′) where
+    module _ {n : ℕ} {line′ : List ℕ} (f : Frames l 0 i (drop at t) (Write.Done n) line′) where
       abbrev d : Drawn l i n (drop at t) line′
       d = drawn l i (drop at t) line′ n f
 
@@ -233,7 +233,7 @@ module _ (l t₀ : List ℕ) where
         by (inr s) = all-shown s (omega (arith, frames-16 l s (h .long)))
 
     -- no frame was drawn: there is none, or the pool is not sound
-    module _ {m : ℕ} {line′ : List ℕ} (f : Frames l i (drop at t) (Write.Refused m) line′) where
+    module _ {m : ℕ} {line′ : List ℕ} (f : Frames l 0 i (drop at t) (Write.Refused m) line′) where
       as-it-was : take at t ++ line′ ≡ t
       as-it-was = ap (take at t ++_) (undrawn l i (drop at t) line′ m f .0) ∙ take-append-drop at t
 

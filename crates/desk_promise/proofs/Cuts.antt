@@ -17,10 +17,10 @@ use Rattle.desk_lines.specs.Parts.{longest, Kept, whole, tooLong, kept, joined,
 use Rattle.desk_orders.specs.Orders.{Wanted, set, drops, dump, malformed, ordered}
 use Rattle.desk_lines.proofs.Finds.{up-to-take, up-to-length}
 use Rattle.desk_lines.proofs.Keeps.{keeps-the-parts, cut-anyhow}
-use Rattle.tree.specs.Pool.{givenIn, settingsIn, indexOf, imageOf}
+use Rattle.tree.specs.Pool.{settingsIn, indexOf}
 use Rattle.index_promise.specs.Promise.{holds, fails}
 use Rattle.desk_promise.specs.Replies.{Reply, refusing, reply}
-use Rattle.desk_promise.specs.Promise.{opened, Outcome, outcome, Replies, Answers, Session, rest, next}
+use Rattle.desk_promise.specs.Promise.{opened, Outcome, outcome, withFirst, Replies, Answers, Session, rest, next}
 use Rattle.desk_promise.specs.Turns.{Turned, Turns, goes-on, ends, Serves, over, last, read, turn, ServesAnyText, OneTurn}
 use Rattle.desk_promise.proofs.Sessions.{one-answer, writes-the-program}
 
@@ -226,7 +226,7 @@ counted t y a e = omega (
 )
 
 replied : (w : Wanted) (l t : List ℕ) (a : Outcome) → Replies w l t a → a .count ≤ length (a .text)
-replied w l t a (holds s e) = counted t (reply (imageOf (givenIn l)) l (settingsIn l) w (indexOf l)) a e
+replied w l t a (holds s e) = counted t (reply (withFirst l) l (settingsIn l 0) w (indexOf l 0)) a e
 replied w l t a (fails s e) = counted t (refusing l 2) a e
 
 pub answer-inside : (w : Wanted) (l t : List ℕ) (a : Outcome) → Answers w l t a → a .count ≤ length (a .text)

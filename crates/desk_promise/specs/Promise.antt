@@ -4,10 +4,11 @@ use Prim.Native.Nat.{ℕ}
 use mathlib.Core.Path.{_≡_}
 use mathlib.Core.List.{List, [], _∷_, _++_, map}
 use lib.ListN.{length, take, drop}
-use Rattle.model.specs.Tree.{newIndex}
+use Rattle.model.specs.Tree.{Index}
 use Rattle.model.specs.Refuse.{Call}
 use Rattle.model.specs.Refuse as Batch
-use Rattle.tree.specs.Pool.{SoundPool, givenIn, settingsIn, indexOf, imageOf}
+use Rattle.model.specs.Forest.{replant, newForest}
+use Rattle.tree.specs.Pool.{SoundPool, givenIn, settingsIn, indexOf, forestOf, imageOf}
 use Rattle.index_promise.specs.Promise.{Where}
 use Rattle.desk_lines.specs.Lines.{linesOf}
 use Rattle.desk_lines.specs.Parts.{Kept, kept}
@@ -17,7 +18,7 @@ use Rattle.desk_promise.specs.Program.{desk, program}
 
 -- the desk's pool, opened
 abbrev pub opened : List ℕ
-opened = imageOf desk (newIndex (desk .nodes))
+opened = imageOf desk (newForest (desk .nodes))
 
 -- the length that is answered, and the pool and the text buffer afterwards
 pub record Outcome : Type 0 where
@@ -33,12 +34,16 @@ outcome t y = record { count = length (y .text); pool = y .after; text = y .text
 abbrev pub OnPool : List ℕ → List ℕ → Reply (List ℕ) → Outcome → Type 0
 OnPool l t y a = Where (SoundPool l) (outcome t y) (outcome t (refusing l 2)) a
 
+-- the pool l with x as its tree 0; the other tree is as it was
+abbrev pub withFirst : List ℕ → Index → List ℕ
+withFirst l x = imageOf (givenIn l) (replant 0 x (forestOf l))
+
 -- a batch
 abbrev pub Changes : Call → List ℕ → List ℕ → Outcome → Type 0
-Changes c l t a = OnPool l t (batchReply (imageOf (givenIn l)) l (Batch.answer (settingsIn l) c (indexOf l))) a
+Changes c l t a = OnPool l t (batchReply (withFirst l) l (Batch.answer (settingsIn l 0) c (indexOf l 0))) a
 
 abbrev pub Replies : Wanted → List ℕ → List ℕ → Outcome → Type 0
-Replies w l t a = OnPool l t (reply (imageOf (givenIn l)) l (settingsIn l) w (indexOf l)) a
+Replies w l t a = OnPool l t (reply (withFirst l) l (settingsIn l 0) w (indexOf l 0)) a
 
 -- a line that asks for nothing is refused before the pool is looked at
 abbrev pub Answers : Wanted → List ℕ → List ℕ → Outcome → Type 0

@@ -12,23 +12,21 @@ use Rattle.slots_raw.specs.declared.Row.{Row}
 use Rattle.slots_raw.specs.Slots.{blank}
 use Rattle.slots.specs.Nodes.{nodes, nth}
 use Rattle.slots.specs.Nodes as S
-use Rattle.slots.proofs.Nodes.{length-nodes}
 use Rattle.model.specs.declared.Settings.{Settings}
 use Rattle.model.specs.declared.Entry.{Entry}
 use Rattle.model.specs.Answer.{Answer}
 use Rattle.model.specs.Lists.{concat, All, one}
 use Rattle.model.specs.Tree.{Tree, entries, slots, entriesOf, greatestKey, total}
 use Rattle.model.specs.Frame.{Branch, Frame, leaf, interior, nodesIn, branches, framesOf, fitted, written, writeNode, lineOf}
-use Rattle.model.specs.Sound.{Fits, Alone}
+use Rattle.model.specs.Sound.{rootFor, Fits, Sound}
+use Rattle.model.specs.Forest.{elsewhere}
 use Rattle.model.proofs.Lists.{all-head}
 use Rattle.tree.specs.Bridge.{entryOf, childOf, childTotals, rowFor, treeAt}
-use Rattle.tree.specs.Pool.{nodesOf, SoundPool, settingsIn, indexOf}
+use Rattle.tree.specs.Pool.{SoundPool, settingsIn, indexOf, forestOf}
 use Rattle.tree.specs.Contracts.{InPool}
 use Rattle.tree.proofs.Sums.{child-total}
 use Rattle.tree.proofs.Few.{used-few, entries-most, slots-low}
-use Rattle.tree.proofs.Fitting.{nodesOf-fit}
-use Rattle.tree.proofs.NodesOf.{held-nodesOf}
-use Rattle.tree.proofs.Pools.{sound-held, sound-holds-index, sound-index}
+use Rattle.tree.proofs.Pools.{sound-held, sound-holds-index, sound-index, sound-narrow}
 use Rattle.frame_text.specs.declared.FrameEntry.{FrameEntry}
 use Rattle.frame_text.specs.declared.Kind.the-variants.{Leaf, Interior}
 use Rattle.frame_text.specs.declared.Contents.{Contents}
@@ -146,45 +144,42 @@ frame-contents (interior bs) = frame-held Interior (map ofBranch bs) ∙ ap inte
 
 -- A SOUND POOL
 
--- the tree of a sound pool stands in its slot
-module _ (l : List ℕ) (s : SoundPool l) where
-  pub sound-standing : ToFind (settingsIn l) (words l) (indexOf l .height) (settingsIn l .root)
+-- a tree of a sound pool stands in its slot
+module _ (l : List ℕ) (s : SoundPool l) (tree : ℕ) where
+  pub sound-standing : ToFind (settingsIn l tree) (words l) (indexOf l tree .height) (rootFor tree)
   sound-standing =
-      let st = settingsIn l in
-      let x = indexOf l in
-      let sound : Alone st x = sound-index l s in
-      let same : nodes st (words l) ≡ nodesOf (st .nodes) x =
-      held-nodesOf st x (nodes st (words l)) (length-nodes st (words l)) (sound-holds-index l s) sound in
-      let many : length (entriesOf x) ≤ 524288 = entries-most st x sound in
+      let st = settingsIn l tree in
+      let x = indexOf l tree in
+      let sound : Sound (settingsIn l tree) (elsewhere tree (forestOf l)) (indexOf l tree) = sound-index l s tree in
+      let many : length (entriesOf (indexOf l tree)) ≤ 524288 = entries-most st x sound in
       record {
-        held = sound-held l s;
-        stands = sound-holds-index l s .tree;
+        held = sound-held l s tree;
+        stands = sound-holds-index l s tree .tree;
         low = slots-low st x sound;
         few = used-few st x sound;
         fit = sound .fit;
         light = omega (arith, many);
-        narrow =
-            λ y. subst (λ (ns : List S.Node). length (nth ns y .rows) ≤ 32) (sym same) (omega (arith, nodesOf-fit st x sound y .few, sound .settings .narrow));
+        narrow = sound-narrow l s tree;
       }
 
--- the same of settings and a height that are the pool's own
+-- the same of settings and a height that are a tree's own
 module _ (l : List ℕ) (st : Settings) (h : ℕ) (k : InPool l st h) where
   pub node-standing : ToFind st (words l) h (st .root)
   node-standing =
       subst (λ (x : Settings). ToFind x (words l) h (x .root)) (sym (k .own))
-      (subst (λ (y : ℕ). ToFind (settingsIn l) (words l) y (settingsIn l .root)) (sym (k .tall)) (sound-standing l (k .sound)))
+      (subst (λ (y : ℕ). ToFind (settingsIn l (st .root)) (words l) y (settingsIn l (st .root) .root)) (sym (k .tall)) (sound-standing l (k .sound) (st .root)))
 
-  own : (i : ℕ) (r : Found) → Located st (words l) h (st .root) i r → Located (settingsIn l) (words l) (indexOf l .height) (settingsIn l .root) i r
+  own : (i : ℕ) (r : Found) → Located st (words l) h (st .root) i r → Located (settingsIn l (st .root)) (words l) (indexOf l (st .root) .height) (settingsIn l (st .root) .root) i r
   own i r f =
-      subst (λ (y : ℕ). Located (settingsIn l) (words l) y (settingsIn l .root) i r) (k .tall)
+      subst (λ (y : ℕ). Located (settingsIn l (st .root)) (words l) y (settingsIn l (st .root) .root) i r) (k .tall)
       (subst (λ (x : Settings). Located x (words l) h (x .root) i r) (k .own) f)
 
   -- there is no node i
   pub node-none : (i left : ℕ) (line : List ℕ) → Located st (words l) h (st .root) i (Left left)
-      → Writes (writeNode i (length line) (indexOf l)) line (Write.Refused 14) line
+      → Writes (writeNode i (length line) (indexOf l (st .root))) line (Write.Refused 14) line
   node-none i left line f =
-      let past : length (framesOf (indexOf l)) ≤ i = omega (arith, frames-long (indexOf l .height) 0 (indexOf l .root), own i (Left left) f) in
-      subst (λ (a : Answer (List ℕ)). Writes a line (Write.Refused 14) line) (sym (ap (written (length line)) (elem-past (framesOf (indexOf l)) i past)))
+      let past : length (framesOf (indexOf l (st .root))) ≤ i = omega (arith, frames-long (indexOf l (st .root) .height) 0 (indexOf l (st .root) .root), own i (Left left) f) in
+      subst (λ (a : Answer (List ℕ)). Writes a line (Write.Refused 14) line) (sym (ap (written (length line)) (elem-past (framesOf (indexOf l (st .root))) i past)))
       (record { answer = refl; line = refl })
 
   pub node-low : (i t g : ℕ) → Located st (words l) h (st .root) i (Node t g) → i ≤ 16384
@@ -193,13 +188,13 @@ module _ (l : List ℕ) (st : Settings) (h : ℕ) (k : InPool l st h) where
   -- the frame of node i
   pub node-written : (i t g : ℕ) (c : Contents) (line after : List ℕ) (r : WriteAnswer) → Located st (words l) h (st .root) i (Node t g)
       → c ≡ contentsOf (frameAt g i (treeAt (nodes st (words l)) g t)) → Writes (fitted (length line) (lineOf (frameOf c))) line r after
-      → Writes (writeNode i (length line) (indexOf l)) line r after
+      → Writes (writeNode i (length line) (indexOf l (st .root))) line r after
   node-written i t g c line after r f e w =
       let x : Frame = frameAt g i (treeAt (nodes st (words l)) g t) in
       let z : 0 + i ≡ i = omega arith in
       let same : frameOf c ≡ frameAt g i (treeAt (nodes st (words l)) g t) = ap frameOf e ∙ frame-contents x in
-      let there : getElem? (framesOf (indexOf l)) i ≡ some (frameAt g i (treeAt (nodes st (words l)) g t)) =
-      own i (Node t g) f .1 .1 0 ∙ ap (λ (j : ℕ). some (frameAt g j (treeAt (nodes (settingsIn l) (words l)) g t))) z
+      let there : getElem? (framesOf (indexOf l (st .root))) i ≡ some (frameAt g i (treeAt (nodes st (words l)) g t)) =
+      own i (Node t g) f .1 .1 0 ∙ ap (λ (j : ℕ). some (frameAt g j (treeAt (nodes (settingsIn l (st .root)) (words l)) g t))) z
       ∙ ap (λ (y : Settings). some (frameAt g i (treeAt (nodes y (words l)) g t))) (sym (k .own)) in
       subst (λ (a : Answer (List ℕ)). Writes a line r after)
       (ap (λ (y : Frame). fitted (length line) (lineOf y)) same ∙ sym (ap (written (length line)) there)) w

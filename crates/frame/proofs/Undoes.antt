@@ -18,7 +18,8 @@ use Rattle.model.specs.ReadFrame.{readLine}
 use Rattle.model.proofs.Answers.{refused-done}
 use Rattle.model.proofs.Frames.{read-written, write-read, read-fits}
 use Rattle.model.proofs.Readable.{frames-read}
-use Rattle.tree.specs.Pool.{indexOf, settingsIn}
+use Rattle.model.specs.Forest.{elsewhere}
+use Rattle.tree.specs.Pool.{indexOf, settingsIn, forestOf}
 use Rattle.tree.proofs.Pools.{sound-index}
 use Rattle.frame_text.specs.declared.Contents.{Contents}
 use Rattle.frame_text.specs.declared.WriteAnswer.{WriteAnswer}
@@ -115,8 +116,9 @@ reads-written c l₀ l n r fit w g =
     line-back f (writeFrame (length l₀) f) l₀ l n r (p .on ∙ q .0) (q .1) (w .line) (read-written f fit (p .entries)) g
 
 pub reads-node : ReadsNode
-reads-node p i l₀ l n r sound w g =
-    go (framesOf (indexOf p)) i (getElem? (framesOf (indexOf p)) i) refl (frames-read (settingsIn p) (indexOf p) (sound-index p sound)) w
+reads-node p tree i l₀ l n r sound w g =
+    go (framesOf (indexOf p tree)) i (getElem? (framesOf (indexOf p tree)) i) refl
+    (frames-read (settingsIn p tree) (elsewhere tree (forestOf p)) (indexOf p tree) (sound-index p sound tree)) w
   where
     found : (fs : List Frame) (i : ℕ) (f : Frame) → All (λ x. readLine (lineOf x) ≡ done x) fs → getElem? fs i ≡ some f → readLine (lineOf f) ≡ done f
     found [] i f none e = absurd (Option·none-ne-some f e)

@@ -38,12 +38,12 @@ ReadsWritten =
     (c : Contents) (l₀ l : List ℕ) (n : ℕ) (r : Reading) → FrameFits (frameOf c)
     → Writes (writeFrame (length l₀) (frameOf c)) l₀ (Write.Done n) l → Reads (readLine (take n l)) r → r ≡ readAs (frameOf c)
 
--- from a sound pool: frame i of its index
+-- from a sound pool: frame i of one of its trees
 abbrev pub ReadsNode : Type 0
 ReadsNode =
-    (p : List ℕ) (i : ℕ) (l₀ l : List ℕ) (n : ℕ) (r : Reading) → SoundPool p
-    → Writes (writeNode i (length l₀) (indexOf p)) l₀ (Write.Done n) l → Reads (readLine (take n l)) r
-    → (f : Frame) × ((getElem? (framesOf (indexOf p)) i ≡ some f) × (r ≡ readAs f))
+    (p : List ℕ) (tree i : ℕ) (l₀ l : List ℕ) (n : ℕ) (r : Reading) → SoundPool p
+    → Writes (writeNode i (length l₀) (indexOf p tree)) l₀ (Write.Done n) l → Reads (readLine (take n l)) r
+    → (f : Frame) × ((getElem? (framesOf (indexOf p tree)) i ≡ some f) × (r ≡ readAs f))
 
 -- WHAT WAS READ IS WRITTEN BACK, wherever its line has room
 abbrev pub WritesRead : Type 0

@@ -38,7 +38,7 @@ pub fn write_node(
 ) -> WriteAnswer
     requires { ⌜ InPool (now pool) st height ⌝ }
     ensures { λ r.
-        ⌜ Writes (writeNode i (length (now (line .entry))) (indexOf (now (pool .entry)))) (now (line .entry)) r (now (line .exit)) ⌝ }
+        ⌜ Writes (writeNode i (length (now (line .entry))) (indexOf (now (pool .entry)) (st .root))) (now (line .entry)) r (now (line .exit)) ⌝ }
 {
     match find(pool, st, height, st.root, i) {
         Found::Node(s, h) => {

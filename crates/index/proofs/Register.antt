@@ -1,34 +1,36 @@
--- From any pool that answers from a list, after any sequence of batches, the calls answer from the plain list, and so from a newly opened pool; and two
--- neighbouring batches that share no key may change places. Assumes nothing.
+-- From any pool whose tree answers from a list, after any sequence of batches on either tree, the calls that name that tree answer from its plain list, and
+-- so from a newly opened pool; and two neighbouring batches may change places. Assumes nothing.
 use mathlib.Core.Path.{_≡_, refl, sym, ap, _∙_, subst}
-use mathlib.Core.Bool.{false, cond}
-use mathlib.Core.List.{List, []}
-use Prim.Native.Nat.{ℕ, zero, suc}
+use mathlib.Core.Bool.{Bool, true, false, cond}
+use mathlib.Core.List.{List, [], _∷_}
+use Prim.Native.Nat.{ℕ, zero, suc, _<_}
+use lib.Dec.{eqb}
+use borrow.Author.Tests.{lt-ltb}
 use Rattle.model.specs.declared.PoolSettings.{PoolSettings}
-use Rattle.model.specs.declared.Settings.{Settings}
 use Rattle.model.specs.declared.Counts.{Counts}
 use Rattle.model.specs.declared.Entry.{Entry}
-use Rattle.model.specs.Lists.{All, one}
-use Rattle.model.specs.Tree.{Index, newIndex, entriesOf}
-use Rattle.model.specs.Plain.{plainList, plainCounts, noCounts}
-use Rattle.model.specs.Change.{Batched, batch}
+use Rattle.model.specs.Lists.{All, none, one}
+use Rattle.model.specs.Tree.{entriesOf}
+use Rattle.model.specs.Plain.{plainCounts, noCounts}
 use Rattle.model.specs.Answer.{Answer, refused, done, unless}
 use Rattle.model.specs.Look.{Listing, getAll, scan}
-use Rattle.model.specs.Refuse.{Call, tasksOf, refusal, descend}
-use Rattle.model.specs.Sound.{handed, Alone}
+use Rattle.model.specs.Refuse.{Call, tasksOf, descend, get}
+use Rattle.model.specs.Forest.{Forest, treeOf, replant, newForest, SoundForest, named, refusalAt, batchAt, forestAfter}
 use Rattle.model.specs.Demands as D
+use Rattle.model.specs.TwoTrees.{doneAt, BatchesAt, BothAccepted, ChangePlacesAt}
 use Rattle.model.proofs.Answers.{refused-done}
 use Rattle.model.proofs.Demands as M
-use Rattle.model.proofs.Calls.{new-sound}
-use Rattle.tree.specs.Pool.{SoundPool, givenIn, settingsIn, indexOf, imageOf}
-use Rattle.tree.proofs.Pools.{sound-index, image-sound, image-index, image-settings}
+use Rattle.model.proofs.Forest.{new-forest-sound, one-batch-at}
+use Rattle.model.proofs.TwoTrees as T
+use Rattle.tree.specs.Pool.{SoundPool, givenIn, indexOf, forestOf, imageOf}
+use Rattle.tree.proofs.Pools.{tree-of, sound-forest, image-sound, image-given, image-forest}
 use Rattle.look_output.specs.Output.{roomIn}
 use Rattle.index_promise.specs.declared.OpenAnswer.the-variants as Open
 use Rattle.index_promise.specs.declared.BatchAnswer.{BatchAnswer}
 use Rattle.index_promise.specs.declared.BatchAnswer.the-variants as Batch
 use Rattle.index_promise.specs.Promise.{holds, fails, Left, _leaving_, leaves, Opens, Batches, batched, written, listed}
 use Rattle.index_promise.proofs.Unique.{by-sound}
-use Rattle.index.specs.Register.{AnswersFrom, sweptOf, Turn, Runs, rest, next, plainAfter, plainRun, CountedBy, Counted, Onwards, Demand3, Swap}
+use Rattle.index.specs.Register.{AnswersFrom, sweptOf, Turn, Runs, rest, next, plainAfter, plainTurn, plainRun, CountedBy, Counted, Onwards, Demand3, Swapped, Swap, SwapTrees}
 
 -- WHAT A PROMISE SAYS OF A SOUND POOL
 
@@ -36,20 +38,26 @@ use Rattle.index.specs.Register.{AnswersFrom, sweptOf, Turn, Runs, rest,
 pub done-is : {A : Type 0} {a b : A} → done a ≡ done b → a ≡ b
 done-is e = cc
 
-pub answers-from : (es : List Entry) (l : List ℕ) → SoundPool l → entriesOf (indexOf l) ≡ es → AnswersFrom es l
-answers-from es l s e =
-    let m : D.AnswersFrom es (indexOf l) = M.answers-from (indexOf l) es e in
+-- a tree whose number is 0 or 1 is not refused as 19
+pub named-is : {A : Type 0} (i : ℕ) (a : Answer A) → i < 2 → named i a ≡ a
+named-is i a low = rw (lt-ltb i 2 low) refl
+
+pub answers-from : (i : ℕ) (es : List Entry) (l : List ℕ) → i < 2 → SoundPool l → entriesOf (indexOf l i) ≡ es → AnswersFrom i es l
+answers-from i es l low s e =
+    let m : D.AnswersFrom es (indexOf l i) = M.answers-from (indexOf l i) es e in
     record {
       sound = s;
       holds = e;
-      totals = λ r p. by-sound s p ∙ ap done (m .totals);
+      totals = λ r p. by-sound s p ∙ named-is i _ low ∙ ap done (m .totals);
       gets = λ ks out r out′ d p.
-          let q = by-sound s p ∙ ap (λ n. leaves listed (written out) out (unless n (getAll ks (roomIn out) (indexOf l)))) (descends ks d)
+          let q = by-sound s p ∙ ap (leaves listed (written out) out) (named-is i (get ks (roomIn out) (indexOf l i)) low)
+          ∙ ap (λ n. leaves listed (written out) out (unless n (getAll ks (roomIn out) (indexOf l i)))) (descends ks d)
           ∙ ap (λ (g : Listing). done (listed g) leaving written out g) (m .gets ks (roomIn out)) in
           (ap (λ w. w .answer) q, ap (λ w. w .bytes) q);
       scans = λ q out r out′ p.
-          let n = scan q (roomIn out) (indexOf l) .opened in
-          let e = by-sound s p ∙ ap (λ (g : Listing). done (sweptOf g n) leaving written out g) (m .scans q (roomIn out)) in
+          let n = scan q (roomIn out) (indexOf l i) .opened in
+          let e = by-sound s p ∙ ap (leaves (λ s. sweptOf (s .listed) (s .opened)) (λ s. written out (s .listed)) out) (named-is i (done (scan q (roomIn out) (indexOf l i))) low)
+          ∙ ap (λ (g : Listing). done (sweptOf g n) leaving written out g) (m .scans q (roomIn out)) in
           ((n, ap (λ w. w .answer) e), ap (λ w. w .bytes) e);
     }
   where
@@ -59,131 +67,187 @@ answers-from es l s e =
 -- A BATCH
 
 -- it was accepted: its counts and the pool are the model's
-record Accepted (c : Call) (l : List ℕ) (k : Counts) (m : List ℕ) : Type 0 where
-  sound : SoundPool l
-  passed : refusal (settingsIn l) c (indexOf l) ≡ 0
-  counts : k ≡ batch (settingsIn l) (tasksOf c) (indexOf l) .counts
-  bytes : m ≡ imageOf (givenIn l) (batch (settingsIn l) (tasksOf c) (indexOf l) .index)
+pub record Accepted (i : ℕ) (c : Call) (l : List ℕ) (k : Counts) (m : List ℕ) : Type 0 where
+  pub sound : SoundPool l
+  pub passed : refusalAt (givenIn l) i c (forestOf l) ≡ 0
+  pub counts : k ≡ batchAt (givenIn l) i c (forestOf l) .counts
+  pub bytes : m ≡ imageOf (givenIn l) (doneAt (givenIn l) i c (forestOf l))
 
-module _ (c : Call) (l : List ℕ) where
-  abbrev st : Settings
-  st = settingsIn l
+module _ (i : ℕ) (c : Call) (l : List ℕ) where
+  -- what is left where its refusal is n, 0 for none
+  abbrev pub leftBy : ℕ → Left Counts
+  leftBy n = leaves (λ b. b .counts) (λ b. imageOf (givenIn l) (replant i (b .index) (forestOf l))) l (unless n (batchAt (givenIn l) i c (forestOf l)))
 
-  abbrev outcome : Batched
-  outcome = batch st (tasksOf c) (indexOf l)
-
-  abbrev left : Answer Batched → Left Counts
-  left = leaves (λ b. b .counts) (λ b. imageOf (givenIn l) (b .index)) l
-
-  accepted : {k : Counts} {m : List ℕ} → Batches c l (Batch.Done k) m → Accepted c l k m
+  pub accepted : {k : Counts} {m : List ℕ} → Batches i c l (Batch.Done k) m → Accepted i c l k m
   accepted {k} {m} (fails u e) = absurd (refused-done 2 k (sym (ap (λ (w : Left Counts). w .answer) e)))
-  accepted {k} {m} (holds s e) = by (refusal st c (indexOf l)) refl e
+  accepted {k} {m} (holds s e) = by (refusalAt (givenIn l) i c (forestOf l)) refl e
     where
-      by : (n : ℕ) → refusal st c (indexOf l) ≡ n → (done k leaving m) ≡ left (unless n outcome) → Accepted c l k m
+      by : (n : ℕ) → refusalAt (givenIn l) i c (forestOf l) ≡ n → (done k leaving m) ≡ leftBy n → Accepted i c l k m
       by zero q f = record { sound = s; passed = q; counts = done-is (ap (λ (w : Left Counts). w .answer) f); bytes = ap (λ (w : Left Counts). w .bytes) f }
       by (suc n) q f = absurd (refused-done (suc n) k (sym (ap (λ (w : Left Counts). w .answer) f)))
 
   -- it was refused: the pool is as it was
-  refused-same : {n : ℕ} {m : List ℕ} → Batches c l (Batch.Refused n) m → m ≡ l
+  pub refused-same : {n : ℕ} {m : List ℕ} → Batches i c l (Batch.Refused n) m → m ≡ l
   refused-same (fails u e) = ap (λ (w : Left Counts). w .bytes) e
-  refused-same {n} {m} (holds s e) = by (refusal st c (indexOf l)) e
+  refused-same {n} {m} (holds s e) = by (refusalAt (givenIn l) i c (forestOf l)) e
     where
-      by : (i : ℕ) → (refused n leaving m) ≡ left (unless i outcome) → m ≡ l
-      by zero f = absurd (refused-done n (outcome .counts) (ap (λ (w : Left Counts). w .answer) f))
-      by (suc i) f = ap (λ (w : Left Counts). w .bytes) f
+      by : (k : ℕ) → (refused n leaving m) ≡ leftBy k → m ≡ l
+      by zero f = absurd (refused-done n (batchAt (givenIn l) i c (forestOf l) .counts) (ap (λ (w : Left Counts). w .answer) f))
+      by (suc k) f = ap (λ (w : Left Counts). w .bytes) f
 
 -- the pool after an accepted batch
-record After (c : Call) (l : List ℕ) (k : Counts) (m : List ℕ) : Type 0 where
-  sound : SoundPool m
-  settings : settingsIn m ≡ settingsIn l
-  index : indexOf m ≡ batch (settingsIn l) (tasksOf c) (indexOf l) .index
-  list : entriesOf (indexOf m) ≡ plainList (tasksOf c) (entriesOf (indexOf l))
-  counted : k ≡ plainCounts (tasksOf c) (entriesOf (indexOf l)) noCounts
+pub record After (i : ℕ) (c : Call) (l : List ℕ) (m : List ℕ) : Type 0 where
+  pub sound : SoundPool m
+  pub given : givenIn m ≡ givenIn l
+  pub forest : forestOf m ≡ doneAt (givenIn l) i c (forestOf l)
+  pub batch : BatchesAt (givenIn l) i c (forestOf l)
 
-after : (c : Call) (l : List ℕ) (k : Counts) (m : List ℕ) → D.Lent c → Accepted c l k m → After c l k m
-after c l k m lent a =
-    let st = settingsIn l in
-    let x = indexOf l in
-    let b : D.Batches st c x (batch st (tasksOf c) x) = M.one-batch st c x (sound-index l (a .sound)) lent (a .passed) in
-    let y = batch st (tasksOf c) x .index in
-    let i : indexOf m ≡ y = ap indexOf (a .bytes) ∙ image-index (givenIn l) y (b .sound) in
+pub after : (i : ℕ) (c : Call) (l : List ℕ) (k : Counts) (m : List ℕ) → D.Lent c → Accepted i c l k m → After i c l m
+after i c l k m lent a =
+    let b : BatchesAt (givenIn l) i c (forestOf l) = one-batch-at (givenIn l) i c (forestOf l) (sound-forest l (a .sound)) lent (a .passed) in
+    let f : Forest = doneAt (givenIn l) i c (forestOf l) in
     record {
-      sound = subst SoundPool (sym (a .bytes)) (image-sound (givenIn l) y (b .sound));
-      settings = ap settingsIn (a .bytes) ∙ image-settings (givenIn l) y (b .sound);
-      index = i;
-      list = ap entriesOf i ∙ b .list;
-      counted = a .counts ∙ b .counts;
+      sound = subst SoundPool (sym (a .bytes)) (image-sound (givenIn l) f (b .sound));
+      given = ap givenIn (a .bytes) ∙ image-given (givenIn l) f (b .sound);
+      forest = ap forestOf (a .bytes) ∙ image-forest (givenIn l) f (b .sound);
+      batch = b;
     }
 
 -- ANY SEQUENCE
 
-record Kept (es : List Entry) (l : List ℕ) : Type 0 where
+-- tree i holds a list
+record Kept (i : ℕ) (es : List Entry) (l : List ℕ) : Type 0 where
   sound : SoundPool l
-  list : entriesOf (indexOf l) ≡ es
+  list : entriesOf (indexOf l i) ≡ es
 
-turn : (c : Call) (r : BatchAnswer) (l m : List ℕ) (es : List Entry) → D.Lent c → Kept es l → Batches c l r m
-    → Kept (plainAfter c (batched r) es) m × CountedBy c (batched r) es
-turn c (Batch.Done k) l m es lent g b =
-    let a : After c l k m = after c l k m lent (accepted c l b) in (
-      record { sound = a .sound; list = a .list ∙ ap (plainList (tasksOf c)) (g .list) },
-      a .counted ∙ ap (λ (fs : List Entry). plainCounts (tasksOf c) fs noCounts) (g .list),
+-- so does the tree of its forest, and conversely
+in-forest : (i : ℕ) (l : List ℕ) → entriesOf (treeOf i (forestOf l)) ≡ entriesOf (indexOf l i)
+in-forest i l = ap entriesOf (tree-of l i)
+
+turn : (i j : ℕ) (c : Call) (r : BatchAnswer) (l m : List ℕ) (es : List Entry) → i < 2 → D.Lent c → Kept i es l → Batches j c l r m
+    → Kept i (cond (eqb j i) (plainAfter c (batched r) es) es) m × (j ≡ i → CountedBy c (batched r) es)
+turn i j c (Batch.Done k) l m es low lent g b =
+    let a : Accepted j c l k m = accepted j c l b in
+    let now : After j c l m = after j c l k m lent a in
+    let f : Forest = forestOf l in
+    let list : entriesOf (treeOf i (forestOf l)) ≡ es = in-forest i l ∙ g .list in
+    let next : D.AnswersFrom _ _ =
+    T.onwards (givenIn l) (record { tree = j; call = c } ∷ []) f i es low (one lent none) (sound-forest l (a .sound)) list .1 in (
+      record {
+        sound = now .sound;
+        list = sym (in-forest i m) ∙ ap (λ (h : Forest). entriesOf (treeOf i h)) (now .forest)
+            ∙ ap (λ (n : ℕ). entriesOf (treeOf i (forestAfter j f (unless n (batchAt (givenIn l) j c f))))) (sym (a .passed)) ∙ next .holds
+            ∙ ap (λ (n : ℕ). cond (eqb j i) (D.plainAfter n (tasksOf c) es) es) (a .passed);
+      },
+      λ e. a .counts ∙ now .batch .counts
+          ∙ ap (λ (fs : List Entry). plainCounts (tasksOf c) fs noCounts) (ap (λ (t : ℕ). entriesOf (treeOf t f)) e ∙ list),
     )
-turn c (Batch.Refused n) l m es lent g b = (subst (Kept es) (sym (refused-same c l b)) g, tt)
+turn i j c (Batch.Refused n) l m es low lent g b =
+    let same : m ≡ l = refused-same j c l b in
+    (subst (λ (fs : List Entry). Kept i fs m) (sym (either (eqb j i))) (subst (Kept i es) (sym same) g), λ e. tt)
+  where
+    either : (t : Bool) → cond t es es ≡ es
+    either true = refl
+    either false = refl
 
-run : {ts : List Turn} {l k : List ℕ} (es : List Entry) → All (λ t. D.Lent (t .call)) ts → Kept es l → Runs ts l k → Kept (plainRun ts es) k × Counted ts es
-run es lent g rest = (g, tt)
-run es (one h hs) g (next {t = t} {l = l} {m = m} b bs) =
-    let one : Kept (plainAfter (t .call) (batched (t .answer)) es) m × CountedBy (t .call) (batched (t .answer)) es = turn (t .call) (t .answer) l m es h g b in
-    let on = run (plainAfter (t .call) (batched (t .answer)) es) hs (one .0) bs in
+run : {ts : List Turn} {l k : List ℕ} (i : ℕ) (es : List Entry) → i < 2 → All (λ t. D.Lent (t .call)) ts → Kept i es l → Runs ts l k
+    → Kept i (plainRun i ts es) k × Counted i ts es
+run i es low lent g rest = (g, tt)
+run i es low (one h hs) g (next {t = t} {l = l} {m = m} b bs) =
+    let one : Kept i (plainTurn i t es) m × (t .tree ≡ i → CountedBy (t .call) (batched (t .answer)) es) =
+    turn i (t .tree) (t .call) (t .answer) l m es low h g b in
+    let on = run i (plainTurn i t es) low hs (one .0) bs in
     (on .0, (one .1, on .1))
 
 pub onwards : Onwards
-onwards es l now ts lent a runs =
-    let k = run es lent (record { sound = a .sound; list = a .holds }) runs in (answers-from (plainRun ts es) now (k .0 .sound) (k .0 .list), k .1)
+onwards i es l now ts low lent a runs =
+    let k = run i es low lent (record { sound = a .sound; list = a .holds }) runs in
+    (answers-from i (plainRun i ts es) now low (k .0 .sound) (k .0 .list), k .1)
 
 -- an opened pool has no entries
-opened : (given : PoolSettings) (l new : List ℕ) → Opens given l Open.Done new → AnswersFrom [] new
-opened given l new (fails u e) = absurd (refused-done 1 tt (sym (ap (λ w. w .answer) e)))
-opened given l new (holds (lim, exact) e) =
-    let x = newIndex (given .nodes) in
-    let s : Alone (handed given) x = new-sound given lim in
-    let is : new ≡ imageOf given x = ap (λ w. w .bytes) e in
-    answers-from [] new (subst SoundPool (sym is) (image-sound given x s)) (ap entriesOf (ap indexOf is ∙ image-index given x s))
+opened : (given : PoolSettings) (i : ℕ) (l new : List ℕ) → i < 2 → Opens given l Open.Done new → AnswersFrom i [] new
+opened given i l new low (fails u e) = absurd (refused-done 1 tt (sym (ap (λ w. w .answer) e)))
+opened given i l new low (holds (lim, exact) e) =
+    let f : Forest = newForest (given .nodes) in
+    let s : SoundForest given f = new-forest-sound given lim in
+    let is : new ≡ imageOf given f = ap (λ w. w .bytes) e in
+    answers-from i [] new low (subst SoundPool (sym is) (image-sound given f s))
+    (sym (in-forest i new) ∙ ap (λ (h : Forest). entriesOf (treeOf i h)) (ap forestOf is ∙ image-forest given f s) ∙ bare i)
+  where
+    bare : (i : ℕ) → entriesOf (treeOf i (newForest (given .nodes))) ≡ []
+    bare zero = refl
+    bare (suc i) = refl
 
 pub demand-3 : Demand3
-demand-3 given l new now ts lent o runs = onwards [] new now ts lent (opened given l new o) runs
+demand-3 given i l new now ts low lent o runs = onwards i [] new now ts low lent (opened given i l new low o) runs
 
 -- TWO NEIGHBOURS
 
--- the counts and the pool of an accepted batch, said of the settings and the index that its pool has
-counts-at : {c : Call} {l m : List ℕ} {k : Counts} {st : Settings} {x : Index} → settingsIn l ≡ st → indexOf l ≡ x → Accepted c l k m
-    → (refusal st c x ≡ 0) × (k ≡ batch st (tasksOf c) x .counts)
-counts-at {c = c} {k = k} {x = x} e f a = (rw (sym e, sym f) (a .passed), rw (sym e, sym f) (a .counts))
+-- what was accepted and what it left, said of the settings and the forest that its pool has
+passed-at : {i : ℕ} {c : Call} {l m : List ℕ} {k : Counts} {g : PoolSettings} {f : Forest} → givenIn l ≡ g → forestOf l ≡ f → Accepted i c l k m
+    → (refusalAt g i c f ≡ 0) × (k ≡ batchAt g i c f .counts)
+passed-at {i = i} {c = c} {k = k} e h a = (rw (sym e, sym h) (a .passed), rw (sym e, sym h) (a .counts))
 
-index-at : {c : Call} {l m : List ℕ} {k : Counts} {st : Settings} {x : Index} → settingsIn l ≡ st → indexOf l ≡ x → After c l k m
-    → indexOf m ≡ batch st (tasksOf c) x .index
-index-at {c = c} {l = l} {st = st} e f a =
-    a .index ∙ ap (λ (u : Settings). batch u (tasksOf c) (indexOf l) .index) e ∙ ap (λ (y : Index). batch st (tasksOf c) y .index) f
+forest-at : {i : ℕ} {c : Call} {l m : List ℕ} {g : PoolSettings} {f : Forest} → givenIn l ≡ g → forestOf l ≡ f → After i c l m → forestOf m ≡ doneAt g i c f
+forest-at {i = i} {c = c} e h a = rw (sym e, sym h) (a .forest)
+
+module _ (i j : ℕ) (c d : Call) (l m k m′ k′ : List ℕ) (x y x′ y′ : Counts) (lc : D.Lent c) (ld : D.Lent d)
+    (b₁ : Batches i c l (Batch.Done x) m) (b₂ : Batches j d m (Batch.Done y) k) (b₃ : Batches j d l (Batch.Done y′) m′) (b₄ : Batches i c m′ (Batch.Done x′) k′) where
+  abbrev g : PoolSettings
+  g = givenIn l
+
+  abbrev f : Forest
+  f = forestOf l
+
+  a₁ : Accepted i c l x m
+  a₁ = accepted i c l b₁
+
+  a₃ : Accepted j d l y′ m′
+  a₃ = accepted j d l b₃
+
+  f₁ : After i c l m
+  f₁ = after i c l x m lc a₁
+
+  f₃ : After j d l m′
+  f₃ = after j d l y′ m′ ld a₃
+
+  f₂ : After j d m k
+  f₂ = after j d m y k ld (accepted j d m b₂)
+
+  f₄ : After i c m′ k′
+  f₄ = after i c m′ x′ k′ lc (accepted i c m′ b₄)
+
+  second : (refusalAt g j d (doneAt g i c f) ≡ 0) × (y ≡ batchAt g j d (doneAt g i c f) .counts)
+  second = passed-at (f₁ .given) (f₁ .forest) (accepted j d m b₂)
+
+  fourth : (refusalAt g i c (doneAt g j d f) ≡ 0) × (x′ ≡ batchAt g i c (doneAt g j d f) .counts)
+  fourth = passed-at (f₃ .given) (f₃ .forest) (accepted i c m′ b₄)
+
+  both : BothAccepted g i c j d f
+  both = record { first = a₁ .passed; thenSecond = second .0; second = a₃ .passed; thenFirst = fourth .0 }
+
+  swapped : ChangePlacesAt g i c j d f → Swapped x y x′ y′ k k′
+  swapped p =
+      let here : forestOf k ≡ doneAt g j d (doneAt g i c f) = forest-at (f₁ .given) (f₁ .forest) f₂ in
+      let there : forestOf k′ ≡ doneAt g i c (doneAt g j d f) = forest-at (f₃ .given) (f₃ .forest) f₄ in
+      record {
+        one = a₁ .counts ∙ p .first ∙ sym (fourth .1);
+        other = second .1 ∙ p .second ∙ sym (a₃ .counts);
+        entries = λ t. entriesOf (indexOf k′ t);
+        this = λ t low. answers-from t (entriesOf (indexOf k′ t)) k low (f₂ .sound)
+            (sym (in-forest t k) ∙ ap (λ (h : Forest). entriesOf (treeOf t h)) here ∙ p .same t .holds
+            ∙ ap (λ (h : Forest). entriesOf (treeOf t h)) (sym there) ∙ in-forest t k′);
+        that = λ t low. answers-from t (entriesOf (indexOf k′ t)) k′ low (f₄ .sound) refl;
+      }
 
 pub swap : Swap
-swap c d l m k m′ k′ x y x′ y′ lc ld apart b₁ b₂ b₃ b₄ =
-    let a₁ = accepted c l b₁ in
-    let a₃ = accepted d l b₃ in
-    let f₁ = after c l x m lc a₁ in
-    let f₂ = after d m y k ld (accepted d m b₂) in
-    let f₃ = after d l y′ m′ ld a₃ in
-    let f₄ = after c m′ x′ k′ lc (accepted c m′ b₄) in
-    let second = counts-at (f₁ .settings) (f₁ .index) (accepted d m b₂) in
-    let fourth = counts-at (f₃ .settings) (f₃ .index) (accepted c m′ b₄) in
-    let p : D.ChangePlaces (settingsIn l) c d (indexOf l) =
-    M.swap (settingsIn l) c d (indexOf l) (sound-index l (a₁ .sound)) lc ld apart (a₁ .passed) (second .0) (a₃ .passed) (fourth .0) in
-    let on : Call → Index → Index = λ b i. batch (settingsIn l) (tasksOf b) i .index in
-    let e₂ : indexOf k ≡ on d (on c (indexOf l)) = index-at (f₁ .settings) (f₁ .index) f₂ in
-    let e₄ : indexOf k′ ≡ on c (on d (indexOf l)) = index-at (f₃ .settings) (f₃ .index) f₄ in
-    record {
-      one = a₁ .counts ∙ p .first ∙ sym (fourth .1);
-      other = second .1 ∙ p .second ∙ sym (a₃ .counts);
-      entries = entriesOf (indexOf k′);
-      this = answers-from (entriesOf (indexOf k′)) k (f₂ .sound) (ap entriesOf e₂ ∙ p .same .holds ∙ ap entriesOf (sym e₄));
-      that = answers-from (entriesOf (indexOf k′)) k′ (f₄ .sound) refl;
-    }
+swap i c d l m k m′ k′ x y x′ y′ lc ld apart b₁ b₂ b₃ b₄ =
+    let all = both i i c d l m k m′ k′ x y x′ y′ lc ld b₁ b₂ b₃ b₄ in
+    swapped i i c d l m k m′ k′ x y x′ y′ lc ld b₁ b₂ b₃ b₄
+    (T.swap-same (givenIn l) i c d (forestOf l) (sound-forest l (accepted i c l b₁ .sound)) lc ld apart all)
+
+pub swap-trees : SwapTrees
+swap-trees i j c d l m k m′ k′ x y x′ y′ ne lc ld b₁ b₂ b₃ b₄ =
+    let all = both i j c d l m k m′ k′ x y x′ y′ lc ld b₁ b₂ b₃ b₄ in
+    swapped i j c d l m k m′ k′ x y x′ y′ lc ld b₁ b₂ b₃ b₄
+    (T.swap-trees (givenIn l) i j c d (forestOf l) ne (sound-forest l (accepted i c l b₁ .sound)) lc ld all)

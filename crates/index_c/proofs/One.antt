@@ -8,7 +8,7 @@ use Rattle.model.specs.Answer.{Answer}
 use Rattle.model.specs.declared.Request.{Request}
 use Rattle.model.specs.Refuse.{Call}
 use Rattle.model.specs.Frame.{Frame, writeFrame}
-use Rattle.model.specs.Sound.{handed, InLimits}
+use Rattle.model.specs.Sound.{PoolLimits}
 use Rattle.tree.specs.Pool.{poolLen}
 use Rattle.frame.proofs.Undoes.{one-written}
 use Rattle.index_promise.specs.Promise.{Where, opening, totalled, batched, got, scanned, packing}
@@ -21,7 +21,7 @@ use Rattle.index_c_fields.specs.Fields.{Fields, frameFields}
 use Rattle.index_c.specs.Calls.{Kept, OpenCall, PackCall, TotalsCall, BatchCall, GetCall, ScanCall, FrameCall, WriteCall, ReadCall}
 use Rattle.index_c_told.proofs.Reported.{one-report}
 
-pub one-pool-len : (given : PoolSettings) (r q : ℕ) → Where (InLimits (handed given)) (poolLen given) 0 r → Where (InLimits (handed given)) (poolLen given) 0 q → r ≡ q
+pub one-pool-len : (given : PoolSettings) (r q : ℕ) → Where (PoolLimits given) (poolLen given) 0 r → Where (PoolLimits given) (poolLen given) 0 q → r ≡ q
 one-pool-len given r q = where-unique
 
 pub one-open-call : (given : PoolSettings) (l k m : List ℕ) (r q : ℕ) → OpenCall given l r k → OpenCall given l q m → (r ≡ q) × (k ≡ m)
@@ -32,9 +32,9 @@ pub one-pack-call : (l m k k′ : List ℕ) (r q : ℕ) → PackCall l m r k →
 one-pack-call l m k k′ r q x y =
     let u = one-pack l m k k′ (x .0) (y .0) (x .1 .0) (y .1 .0) in (x .1 .1 ∙ ap (λ (a : PackAnswer). codeOf (packing a)) (u .0) ∙ sym (y .1 .1), u .1)
 
-pub one-totals-call : (l b b′ b″ : List ℕ) (r q : ℕ) → TotalsCall l b r b′ → TotalsCall l b q b″ → (r ≡ q) × (b′ ≡ b″)
-one-totals-call l b b′ b″ r q x y =
-    one-report totalNumbers _ _ b b′ b″ r q (ap totalled (one-totals l (x .0) (y .0) (x .1 .0) (y .1 .0))) (x .1 .1) (y .1 .1)
+pub one-totals-call : (l : List ℕ) (i : ℕ) (b b′ b″ : List ℕ) (r q : ℕ) → TotalsCall l i b r b′ → TotalsCall l i b q b″ → (r ≡ q) × (b′ ≡ b″)
+one-totals-call l i b b′ b″ r q x y =
+    one-report totalNumbers _ _ b b′ b″ r q (ap totalled (one-totals l i (x .0) (y .0) (x .1 .0) (y .1 .0))) (x .1 .1) (y .1 .1)
 
 -- a promise that leaves one answer and one state of the lent bytes, kept by what is reported
 one-kept : {R A B : Type 0} {P Q : R → Type 0} {k m : List ℕ} (told : R → Answer A) (f : A → B) (b b′ b″ : B) (r q : ℕ)
@@ -43,19 +43,21 @@ one-kept told f b b′ b″ r q one x y =
     let u = one (x .0) (y .0) (x .1 .0) (y .1 .0) in
     (one-report f _ _ b b′ b″ r q (ap told (u .0)) (x .1 .1) (y .1 .1), u .1)
 
-pub one-batch-call : (c : Call) (l k m b b′ b″ : List ℕ) (r q : ℕ) → BatchCall c l b r k b′ → BatchCall c l b q m b″ → ((r ≡ q) × (b′ ≡ b″)) × (k ≡ m)
-one-batch-call c l k m b b′ b″ r q = one-kept batched countNumbers b b′ b″ r q (one-batch c l k m)
-
-pub one-get-call : (l ks out k m b b′ b″ : List ℕ) (r q : ℕ) → GetCall l ks out b r k b′ → GetCall l ks out b q m b″ → ((r ≡ q) × (b′ ≡ b″)) × (k ≡ m)
-one-get-call l ks out k m b b′ b″ r q = one-kept got listedNumbers b b′ b″ r q (one-get l ks out k m)
-
-pub one-scan-call : (l : List ℕ) (p : Request) (out k m b b′ b″ : List ℕ) (r q : ℕ) → ScanCall l p out b r k b′ → ScanCall l p out b q m b″
+pub one-batch-call : (i : ℕ) (c : Call) (l k m b b′ b″ : List ℕ) (r q : ℕ) → BatchCall i c l b r k b′ → BatchCall i c l b q m b″
     → ((r ≡ q) × (b′ ≡ b″)) × (k ≡ m)
-one-scan-call l p out k m b b′ b″ r q = one-kept scanned scannedNumbers b b′ b″ r q (one-scan l p out k m)
+one-batch-call i c l k m b b′ b″ r q = one-kept batched countNumbers b b′ b″ r q (one-batch i c l k m)
 
-pub one-frame-call : (l : List ℕ) (i : ℕ) (line k m : List ℕ) (b b′ b″ r q : ℕ) → FrameCall l i line b r k b′ → FrameCall l i line b q m b″
+pub one-get-call : (l : List ℕ) (i : ℕ) (ks out k m b b′ b″ : List ℕ) (r q : ℕ) → GetCall l i ks out b r k b′ → GetCall l i ks out b q m b″
     → ((r ≡ q) × (b′ ≡ b″)) × (k ≡ m)
-one-frame-call l i line k m b b′ b″ r q = one-kept lengthTold (λ n. n) b b′ b″ r q (one-frame l i line k m)
+one-get-call l i ks out k m b b′ b″ r q = one-kept got listedNumbers b b′ b″ r q (one-get l i ks out k m)
+
+pub one-scan-call : (l : List ℕ) (i : ℕ) (p : Request) (out k m b b′ b″ : List ℕ) (r q : ℕ) → ScanCall l i p out b r k b′ → ScanCall l i p out b q m b″
+    → ((r ≡ q) × (b′ ≡ b″)) × (k ≡ m)
+one-scan-call l i p out k m b b′ b″ r q = one-kept scanned scannedNumbers b b′ b″ r q (one-scan l i p out k m)
+
+pub one-frame-call : (l : List ℕ) (i n : ℕ) (line k m : List ℕ) (b b′ b″ r q : ℕ) → FrameCall l i n line b r k b′ → FrameCall l i n line b q m b″
+    → ((r ≡ q) × (b′ ≡ b″)) × (k ≡ m)
+one-frame-call l i n line k m b b′ b″ r q = one-kept lengthTold (λ n. n) b b′ b″ r q (one-frame l i n line k m)
 
 pub one-write-call : (f : Frame) (line k m : List ℕ) (b b′ b″ r q : ℕ) → WriteCall f line b r k b′ → WriteCall f line b q m b″ → ((r ≡ q) × (b′ ≡ b″)) × (k ≡ m)
 one-write-call f line k m b b′ b″ r q = one-kept lengthTold (λ n. n) b b′ b″ r q (one-written (writeFrame (length line) f) line k m)

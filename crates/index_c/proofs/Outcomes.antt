@@ -6,7 +6,7 @@ use borrow.Author.Tests.{not-true, not-false}
 use Rattle.model.specs.declared.PoolSettings.{PoolSettings}
 use Rattle.model.specs.Answer.{Answer, Tells}
 use Rattle.model.specs.Frame.{Frame}
-use Rattle.model.specs.Sound.{handed, InLimits}
+use Rattle.model.specs.Sound.{PoolLimits}
 use Rattle.model.proofs.Answers.{told-no}
 use Rattle.tree.specs.Pool.{poolLen}
 use Rattle.frame_text.specs.declared.ReadAnswer.{ReadAnswer}
@@ -19,14 +19,14 @@ use Rattle.index_c_fields.specs.Fields.{Fields, fieldsOf, frameFields, contents
 
 -- THE LENGTH OF A POOL
 
-module _ (given : PoolSettings) (b : Bool) (t : Tells b (InLimits (handed given))) where
-  pub len-wrong : not b ≡ true → Where (InLimits (handed given)) (poolLen given) 0 0
+module _ (given : PoolSettings) (b : Bool) (t : Tells b (PoolLimits given)) where
+  pub len-wrong : not b ≡ true → Where (PoolLimits given) (poolLen given) 0 0
   len-wrong e = fails (told-no t (not-true b e)) refl
 
-  pub len-limits : not b ≡ false → InLimits (handed given)
+  pub len-limits : not b ≡ false → PoolLimits given
   len-limits e = t .holds (not-false b e)
 
-  pub len-right : (n : ℕ) → not b ≡ false → n ≡ poolLen given → Where (InLimits (handed given)) (poolLen given) 0 n
+  pub len-right : (n : ℕ) → not b ≡ false → n ≡ poolLen given → Where (PoolLimits given) (poolLen given) 0 n
   len-right n e h = holds (len-limits e) h
 
 -- READING A FRAME

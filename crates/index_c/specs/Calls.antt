@@ -28,23 +28,23 @@ OpenCall given l r l′ = (a : OpenAnswer) × (Opens given l a l′ × (r ≡ co
 abbrev pub PackCall : List ℕ → List ℕ → ℕ → List ℕ → Type 0
 PackCall l m r m′ = (a : PackAnswer) × (Packs l m a m′ × (r ≡ codeOf (packing a)))
 
--- of the pool l, and the small buffer b
+-- of tree i of the pool l, and the small buffer b
 
-abbrev pub TotalsCall : List ℕ → List ℕ → ℕ → List ℕ → Type 0
-TotalsCall l b r b′ = Kept (Totalling l) totalled totalNumbers b r b′
+abbrev pub TotalsCall : List ℕ → ℕ → List ℕ → ℕ → List ℕ → Type 0
+TotalsCall l i b r b′ = Kept (Totalling l i) totalled totalNumbers b r b′
 
-abbrev pub BatchCall : Call → List ℕ → List ℕ → ℕ → List ℕ → List ℕ → Type 0
-BatchCall c l b r l′ b′ = Kept (λ a. Batches c l a l′) batched countNumbers b r b′
+abbrev pub BatchCall : ℕ → Call → List ℕ → List ℕ → ℕ → List ℕ → List ℕ → Type 0
+BatchCall i c l b r l′ b′ = Kept (λ a. Batches i c l a l′) batched countNumbers b r b′
 
-abbrev pub GetCall : List ℕ → List ℕ → List ℕ → List ℕ → ℕ → List ℕ → List ℕ → Type 0
-GetCall l ks out b r out′ b′ = Kept (λ a. Gets l ks out a out′) got listedNumbers b r b′
+abbrev pub GetCall : List ℕ → ℕ → List ℕ → List ℕ → List ℕ → ℕ → List ℕ → List ℕ → Type 0
+GetCall l i ks out b r out′ b′ = Kept (λ a. Gets l i ks out a out′) got listedNumbers b r b′
 
-abbrev pub ScanCall : List ℕ → Request → List ℕ → List ℕ → ℕ → List ℕ → List ℕ → Type 0
-ScanCall l q out b r out′ b′ = Kept (λ a. Scans l q out a out′) scanned scannedNumbers b r b′
+abbrev pub ScanCall : List ℕ → ℕ → Request → List ℕ → List ℕ → ℕ → List ℕ → List ℕ → Type 0
+ScanCall l i q out b r out′ b′ = Kept (λ a. Scans l i q out a out′) scanned scannedNumbers b r b′
 
 -- the small buffer is one number, the line's length
-abbrev pub FrameCall : List ℕ → ℕ → List ℕ → ℕ → ℕ → List ℕ → ℕ → Type 0
-FrameCall l i line b r line′ b′ = Kept (λ a. Frames l i line a line′) lengthTold (λ n. n) b r b′
+abbrev pub FrameCall : List ℕ → ℕ → ℕ → List ℕ → ℕ → ℕ → List ℕ → ℕ → Type 0
+FrameCall l i n line b r line′ b′ = Kept (λ a. Frames l i n line a line′) lengthTold (λ n. n) b r b′
 
 -- WITHOUT A POOL
 

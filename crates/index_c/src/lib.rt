@@ -6,7 +6,7 @@ ghost use Rattle.model.specs.declared.Operation.the-variants.{Set, Remove, Comp
 ghost use Rattle.model.specs.Plain.{referenceFor};
 ghost use Rattle.model.specs.Look.{requestFor};
 ghost use Rattle.model.specs.ReadFrame.{readLine};
-ghost use Rattle.model.specs.Sound.{handed, InLimits};
+ghost use Rattle.model.specs.Sound.{PoolLimits};
 ghost use Rattle.tree.specs.Pool.{poolLen};
 ghost use Rattle.frame_text.specs.Contents.{frameOf};
 ghost use Rattle.index_promise.specs.Promise.{Where};
@@ -31,12 +31,19 @@ use model::Operation;
 use model::Reference;
 use model::Sift;
 
-// The exact length of a pool, in bytes; 0 where a setting is wrong.
+// The exact length of a pool, in bytes; 0 where a setting is wrong. A pool has two trees, each with its order and minimum.
 #[no_mangle]
-pub extern "C" fn alarm_pool_len(nodes: u64, order: u64, minimum: u64) -> u64
-    ensures { λ r. ⌜ Where (InLimits (handed (settingsFor nodes order minimum))) (poolLen (settingsFor nodes order minimum)) 0 r ⌝ }
+pub extern "C" fn alarm_pool_len(
+    nodes: u64,
+    order0: u64,
+    minimum0: u64,
+    order1: u64,
+    minimum1: u64,
+) -> u64
+    ensures { λ r.
+        ⌜ Where (PoolLimits (settingsFor nodes order0 minimum0 order1 minimum1)) (poolLen (settingsFor nodes order0 minimum0 order1 minimum1)) 0 r ⌝ }
 {
-    let given = settings(nodes, order, minimum);
+    let given = settings(nodes, order0, minimum0, order1, minimum1);
     if !tree::in_limits(given) {
         return 0;
     }
@@ -44,17 +51,24 @@ pub extern "C" fn alarm_pool_len(nodes: u64, order: u64, minimum: u64) -> u64
     n as u64
 }
 
-// Makes the pool one empty leaf.
+// Makes the pool two empty leaves, one of each tree.
 #[no_mangle]
-pub extern "C" fn alarm_open(pool: &mut [u8], nodes: u64, order: u64, minimum: u64) -> u32
-    ensures { λ r. ⌜ OpenCall (settingsFor nodes order minimum) (now (pool .entry)) r (now (pool .exit)) ⌝ }
+pub extern "C" fn alarm_open(
+    pool: &mut [u8],
+    nodes: u64,
+    order0: u64,
+    minimum0: u64,
+    order1: u64,
+    minimum1: u64,
+) -> u32
+    ensures { λ r. ⌜ OpenCall (settingsFor nodes order0 minimum0 order1 minimum1) (now (pool .entry)) r (now (pool .exit)) ⌝ }
 {
-    let given = settings(nodes, order, minimum);
+    let given = settings(nodes, order0, minimum0, order1, minimum1);
     let answer = index::open(pool, given);
     tell_open(answer)
 }
 
-// Copies the entries of a pool into a second, new one, so that every node is full but the last of its level.
+// Copies the entries of both trees of a pool into a second, new one, so that every node is full but the last of its level.
 #[no_mangle]
 pub extern "C" fn alarm_pack(source: &[u8], target: &mut [u8]) -> u32
     ensures { λ r. ⌜ PackCall (now (source .entry)) (now (target .entry)) r (now (target .exit)) ⌝ }
@@ -65,10 +79,11 @@ pub extern "C" fn alarm_pack(source: &[u8], target: &mut [u8]) -> u32
 
 // Live entries, dead ones, and the sum of the sizes of the live ones.
 #[no_mangle]
-pub extern "C" fn alarm_totals(pool: &[u8], totals: &mut [u64; 3]) -> u32
-    ensures { λ r. ⌜ TotalsCall (now (pool .entry)) (now (totals .entry)) r (now (totals .exit)) ⌝ }
+pub extern "C" fn alarm_totals(pool: &[u8], tree: u64, totals: &mut [u64; 3]) -> u32
+    ensures { λ r. ⌜ TotalsCall (now (pool .entry)) tree (now (totals .entry)) r (now (totals .exit)) ⌝ }
 {
-    let answer = index::totals(pool);
+    let named = tree as usize;
+    let answer = index::totals(pool, named);
     tell_totals(answer, totals)
 }
 
@@ -76,17 +91,19 @@ pub extern "C" fn alarm_totals(pool: &[u8], totals: &mut [u64; 3]) -> u32
 #[no_mangle]
 pub extern "C" fn alarm_set(
     pool: &mut [u8],
+    tree: u64,
     keys: &[u64],
     place: u64,
     size: u32,
     counts: &mut [u64; 4],
 ) -> u32
     ensures { λ r.
-        ⌜ BatchCall (callFor (Set (referenceFor place size)) (now (keys .entry))) (now (pool .entry)) (now (counts .entry)) r
+        ⌜ BatchCall tree (callFor (Set (referenceFor place size)) (now (keys .entry))) (now (pool .entry)) (now (counts .entry)) r
         (now (pool .exit)) (now (counts .exit)) ⌝ }
 {
     batch(
         pool,
+        tree,
         keys,
         Operation::Set(Reference { place, size }),
         counts,
@@ -97,27 +114,34 @@ pub extern "C" fn alarm_set(
 #[no_mangle]
 pub extern "C" fn alarm_set_each(
     pool: &mut [u8],
+    tree: u64,
     keys: &[u64],
     places: &[u64],
     sizes: &[u32],
     counts: &mut [u64; 4],
 ) -> u32
     ensures { λ r.
-        ⌜ BatchCall (callEach (now (keys .entry)) (now (places .entry)) (now (sizes .entry))) (now (pool .entry)) (now (counts .entry)) r
+        ⌜ BatchCall tree (callEach (now (keys .entry)) (now (places .entry)) (now (sizes .entry))) (now (pool .entry)) (now (counts .entry)) r
         (now (pool .exit)) (now (counts .exit)) ⌝ }
 {
-    let answer = index::batch(pool, keys, places, sizes, Operation::SetEach);
+    let named = tree as usize;
+    let answer = index::batch(pool, named, keys, places, sizes, Operation::SetEach);
     tell_counts(answer, counts)
 }
 
 // Removes every key.
 #[no_mangle]
-pub extern "C" fn alarm_remove(pool: &mut [u8], keys: &[u64], counts: &mut [u64; 4]) -> u32
+pub extern "C" fn alarm_remove(
+    pool: &mut [u8],
+    tree: u64,
+    keys: &[u64],
+    counts: &mut [u64; 4],
+) -> u32
     ensures { λ r.
-        ⌜ BatchCall (callFor Remove (now (keys .entry))) (now (pool .entry)) (now (counts .entry)) r (now (pool .exit))
+        ⌜ BatchCall tree (callFor Remove (now (keys .entry))) (now (pool .entry)) (now (counts .entry)) r (now (pool .exit))
         (now (counts .exit)) ⌝ }
 {
-    batch(pool, keys, Operation::Remove, counts)
+    batch(pool, tree, keys, Operation::Remove, counts)
 }
 
 // For every key that is as expected: sets it to a reference if `set`, and removes it if not. Expected is a reference if `holds`, and an
@@ -125,6 +149,7 @@ pub extern "C" fn alarm_remove(pool: &mut [u8], keys: &[u64], counts: &mut [u64;
 #[no_mangle]
 pub extern "C" fn alarm_compare(
     pool: &mut [u8],
+    tree: u64,
     keys: &[u64],
     holds: bool,
     expected_place: u64,
@@ -135,32 +160,40 @@ pub extern "C" fn alarm_compare(
     counts: &mut [u64; 4],
 ) -> u32
     ensures { λ r.
-        ⌜ BatchCall (callFor (Compare (expectationFor holds «expected_place» «expected_size») (actionFor set place size))
+        ⌜ BatchCall tree (callFor (Compare (expectationFor holds «expected_place» «expected_size») (actionFor set place size))
         (now (keys .entry))) (now (pool .entry)) (now (counts .entry)) r (now (pool .exit)) (now (counts .exit)) ⌝ }
 {
     let e = expectation(holds, expected_place, expected_size);
     let a = action(set, place, size);
-    batch(pool, keys, Operation::Compare(e, a), counts)
+    batch(pool, tree, keys, Operation::Compare(e, a), counts)
 }
 
 // A batch that is lent no references.
-fn batch(pool: &mut [u8], keys: &[u64], op: Operation, counts: &mut [u64; 4]) -> u32
+fn batch(pool: &mut [u8], tree: u64, keys: &[u64], op: Operation, counts: &mut [u64; 4]) -> u32
     ensures { λ r.
-        ⌜ BatchCall (callFor op (now (keys .entry))) (now (pool .entry)) (now (counts .entry)) r (now (pool .exit)) (now (counts .exit)) ⌝ }
+        ⌜ BatchCall tree (callFor op (now (keys .entry))) (now (pool .entry)) (now (counts .entry)) r (now (pool .exit)) (now (counts .exit)) ⌝ }
 {
     let places = [0u64; 0];
     let sizes = [0u32; 0];
-    let answer = index::batch(pool, keys, &places, &sizes, op);
+    let named = tree as usize;
+    let answer = index::batch(pool, named, keys, &places, &sizes, op);
     tell_counts(answer, counts)
 }
 
 // Lists one entry for each key that is present. Told: entries written, and 1 where more were due.
 #[no_mangle]
-pub extern "C" fn alarm_get(pool: &[u8], keys: &[u64], out: &mut [u8], told: &mut [u64; 2]) -> u32
+pub extern "C" fn alarm_get(
+    pool: &[u8],
+    tree: u64,
+    keys: &[u64],
+    out: &mut [u8],
+    told: &mut [u64; 2],
+) -> u32
     ensures { λ r.
-        ⌜ GetCall (now (pool .entry)) (now (keys .entry)) (now (out .entry)) (now (told .entry)) r (now (out .exit)) (now (told .exit)) ⌝ }
+        ⌜ GetCall (now (pool .entry)) tree (now (keys .entry)) (now (out .entry)) (now (told .entry)) r (now (out .exit)) (now (told .exit)) ⌝ }
 {
-    let answer = index::get(pool, keys, out);
+    let named = tree as usize;
+    let answer = index::get(pool, named, keys, out);
     tell_get(answer, told)
 }
 
@@ -168,6 +201,7 @@ pub extern "C" fn alarm_get(pool: &[u8], keys: &[u64], out: &mut [u8], told: &mu
 #[no_mangle]
 pub extern "C" fn alarm_scan(
     pool: &[u8],
+    tree: u64,
     start_bounded: bool,
     start_included: bool,
     start: u64,
@@ -180,24 +214,26 @@ pub extern "C" fn alarm_scan(
     told: &mut [u64; 3],
 ) -> u32
     ensures { λ r.
-        ⌜ ScanCall (now (pool .entry))
+        ⌜ ScanCall (now (pool .entry)) tree
         (requestFor (boundFor «start_bounded» «start_included» start) (boundFor «end_bounded» «end_included» end) (directionFor down)
         (siftFor least)) (now (out .entry)) (now (told .entry)) r (now (out .exit)) (now (told .exit)) ⌝ }
 {
     let low = bound(start_bounded, start_included, start);
     let high = bound(end_bounded, end_included, end);
     let way = direction(down);
-    let answer = index::scan(pool, low, high, way, Sift::SizeAtLeast(least), out);
+    let named = tree as usize;
+    let answer = index::scan(pool, named, low, high, way, Sift::SizeAtLeast(least), out);
     tell_scan(answer, told)
 }
 
-// Writes the i-th frame of a pool. `len`: the line's length.
+// Writes the i-th frame of a tree. `len`: the line's length.
 #[no_mangle]
-pub extern "C" fn alarm_frame(pool: &[u8], i: u64, line: &mut [u8], len: &mut u64) -> u32
-    ensures { λ r. ⌜ FrameCall (now (pool .entry)) i (now (line .entry)) (now (len .entry)) r (now (line .exit)) (now (len .exit)) ⌝ }
+pub extern "C" fn alarm_frame(pool: &[u8], tree: u64, i: u64, line: &mut [u8], len: &mut u64) -> u32
+    ensures { λ r. ⌜ FrameCall (now (pool .entry)) tree i (now (line .entry)) (now (len .entry)) r (now (line .exit)) (now (len .exit)) ⌝ }
 {
+    let named = tree as usize;
     let number = i as usize;
-    let answer = index::frame(pool, number, line);
+    let answer = index::frame(pool, named, number, line);
     tell_length(answer, len)
 }
 

@@ -24,8 +24,10 @@ use Rattle.frame_text.specs.Contents.{ofEntry, ofBranch}
 use Rattle.model.specs.Plain.{referenceFor}
 use Rattle.index_c_given.specs.Places.{places}
 
-abbrev pub settingsFor : ℕ → ℕ → ℕ → PoolSettings
-settingsFor nodes order minimum = record { nodes = nodes; order = order; minimum = minimum }
+-- the nodes, and order and minimum of each tree
+abbrev pub settingsFor : ℕ → ℕ → ℕ → ℕ → ℕ → PoolSettings
+settingsFor nodes order0 minimum0 order1 minimum1 =
+    record { nodes = nodes; first = record { order = order0; minimum = minimum0 }; second = record { order = order1; minimum = minimum1 } }
 
 -- BATCHES
 

@@ -10,17 +10,26 @@ use model::Action;
 use model::Bound;
 use model::Direction;
 use model::Expectation;
+use model::Limits;
 use model::PoolSettings;
 use model::Reference;
 use model::Totals;
 
-pub fn settings(nodes: u64, order: u64, minimum: u64) -> PoolSettings
-    ensures { λ r. ⌜ r ≡ settingsFor nodes order minimum ⌝ }
+pub fn settings(nodes: u64, order0: u64, minimum0: u64, order1: u64, minimum1: u64) -> PoolSettings
+    ensures { λ r. ⌜ r ≡ settingsFor nodes order0 minimum0 order1 minimum1 ⌝ }
 {
+    let first = Limits {
+        order: order0 as usize,
+        minimum: minimum0 as usize,
+    };
+    let second = Limits {
+        order: order1 as usize,
+        minimum: minimum1 as usize,
+    };
     PoolSettings {
         nodes: nodes as usize,
-        order: order as usize,
-        minimum: minimum as usize,
+        first,
+        second,
     }
 }
 

@@ -1,5 +1,5 @@
-// A batch on a pool that is known to be sound. What is known of a pool is handed on from batch to batch, so that a run of batches tests the
-// pool once.
+// A batch on a tree of a pool that is known to be sound. What is known of the tree is handed on from batch to batch, so that a run of batches
+// on it tests the pool once.
 ghost use Rattle.model.specs.Refuse.{call};
 ghost use Rattle.index_promise.specs.Promise.{Batches};
 ghost use Rattle.index_known.specs.Contracts.{Knows};
@@ -11,14 +11,14 @@ use model::Operation;
 use model::Settings;
 use tree_spare::Spare;
 
-// What is known of a sound pool: its settings, the height of its tree, and its unused slots.
+// What is known of a tree of a sound pool: its settings, which name it by its root, its height, and the pool's unused slots.
 pub struct Known {
     pub settings: Settings,
     pub height: usize,
     pub spare: Spare,
 }
 
-// The answer of a batch, and what is known of the pool after it.
+// The answer of a batch, and what is known of the tree after it.
 pub struct Stored {
     pub answer: BatchAnswer,
     pub known: Known,
@@ -35,8 +35,8 @@ pub fn store(
 ) -> Stored
     requires { ⌜ Knows (now pool) known ⌝ }
     ensures promise { λ r.
-        ⌜ Batches (call op (now (places .entry)) (now (sizes .entry)) (now (keys .entry))) (now (pool .entry)) (r .answer)
-        (now (pool .exit)) ⌝ }
+        ⌜ Batches (known .settings .root) (call op (now (places .entry)) (now (sizes .entry)) (now (keys .entry))) (now (pool .entry))
+        (r .answer) (now (pool .exit)) ⌝ }
     ensures again { λ r. ⌜ Knows (now (pool .exit)) (r .known) ⌝ }
 {
     let st = known.settings;

@@ -1,131 +1,127 @@
--- The same of what the code has: settings and heights as the surveys found them, and the numbers that were worked out. Assumes nothing.
-use Prim.Native.Nat.{ℕ, _≤_, _<_}
-use mathlib.Core.Path.{_≡_, sym, ap, _∙_, subst}
+-- The same of what the code has: pools as their surveys found them, settings as they were handed, plans as they were made. Assumes nothing.
+use Prim.Native.Nat.{ℕ, _+_, _≤_, _<_}
+use mathlib.Core.Path.{_≡_, refl, sym, ap, _∙_, subst}
 use mathlib.Core.Bool.{Bool, true, false, not}
 use mathlib.Core.List.{List}
 use native.Mathlib.Omega.{arith}
 use lib.ListN.{length}
-use borrow.Author.Tests.{not-true}
+use borrow.Author.Tests.{not-true, not-false}
 use Rattle.words.specs.Words.{words}
 use Rattle.words.proofs.Laws.{Bytes}
+use Rattle.model.specs.declared.PoolSettings.{PoolSettings}
 use Rattle.model.specs.declared.Settings.{Settings}
-use Rattle.model.specs.Tree.{entriesOf}
-use Rattle.model.specs.Pack.{heightFor, differ, isNew}
-use Rattle.tree.specs.Pool.{SoundPool, settingsIn, indexOf}
-use Rattle.tree.specs.Contracts.{InPool}
+use Rattle.model.specs.PackForest.{isNewForest, forestsDiffer}
+use Rattle.model.specs.Sound.{rootFor, handed}
+use Rattle.tree.specs.Pool.{SoundPool, givenIn, settingsIn, forestOf}
 use Rattle.survey.specs.declared.Findings.{Findings}
-use Rattle.survey.specs.Contracts.{Surveyed}
-use Rattle.survey.proofs.Founds.{sound, in-pool}
-use Rattle.pack_plan.specs.Plan.{packedNodes}
-use Rattle.pack_plan.specs.Contracts.{ToCount}
 use Rattle.pack.specs.Build.{entriesIn, treeFor}
 use Rattle.pack.specs.Contracts.{ToBuild, Built}
 use Rattle.index_promise.specs.declared.PackAnswer.the-variants as Pack
 use Rattle.index_promise.specs.Promise.{Packs}
-use Rattle.index_pack.proofs.Keeps.{refused-17, refused-18, to-count, refused-7, build-asks, packs-done}
+use Rattle.index_pack.specs.declared.Plan.{Plan}
+use Rattle.index_pack.specs.Plan.{planFor, pieceOf}
+use Rattle.index_pack.specs.Contracts.{Found, ToCopy}
+use Rattle.index_pack.proofs.Plans.{plan-few}
+use Rattle.index_pack.proofs.Finds.{found-sound, found-given, found-settings}
+use Rattle.index_pack.proofs.Builds.{first-asks, second-asks, both-built}
+use Rattle.index_pack.proofs.Keeps as keeps
 
--- what holds of some values holds of their equals
-along : (P : Settings → Settings → ℕ → ℕ → ℕ → Type 0) {u u′ v v′ : Settings} {a a′ b b′ c c′ : ℕ} → u ≡ u′ → v ≡ v′ → a ≡ a′ → b ≡ b′ → c ≡ c′
-    → P u v a b c → P u′ v′ a′ b′ c′
-along P {u = u} {u′ = u′} {v = v} {v′ = v′} {a = a} {a′ = a′} {b = b} {b′ = b′} {c = c} eu ev ea eb ec p =
-    subst (P u′ v′ a′ b′) ec
-    (subst (λ (z : ℕ). P u′ v′ a′ z c) eb (subst (λ (z : ℕ). P u′ v′ z b c) ea (subst (λ (z : Settings). P u′ z a b c) ev (subst (λ (z : Settings). P z v a b c) eu p))))
+-- THE TESTS before the trees are copied
 
--- BOTH POOLS ARE SOUND, as their surveys found
+module _ {l m : List ℕ} {f g : Findings} (a : Found l f) (b : Found m g) (d : Bool) (is : d ≡ forestsDiffer (f .given) (g .given)) where
+  differ-is : d ≡ forestsDiffer (givenIn l) (givenIn m)
+  differ-is = is ∙ ap (λ (v : PoolSettings). forestsDiffer v (g .given)) (found-given a) ∙ ap (forestsDiffer (givenIn l)) (found-given b)
 
-pub record Sound (l m : List ℕ) (f g : Findings) : Type 0 where
-  pub theirs : Surveyed l f
-  pub ours : Surveyed m g
-  pub source : not (f .sound) ≡ false
-  pub target : not (g .sound) ≡ false
+  pub told-17 : d ≡ true → Packs l m (Pack.Refused 17) m
+  told-17 on = keeps.refused-17 l m (found-sound a) (found-sound b) (sym differ-is ∙ on)
 
-module _ {l m : List ℕ} {f g : Findings} (k : Sound l m f g) where
+  module _ (off : d ≡ false) (n : Bool) (tells : n ≡ isNewForest (forestOf m)) where
+    pub told-18 : not n ≡ true → Packs l m (Pack.Refused 18) m
+    told-18 old = keeps.refused-18 l m (found-sound a) (found-sound b) (sym differ-is ∙ off) (sym tells ∙ not-true n old)
+
+    pub to-copy : not n ≡ false → ToCopy l f m g
+    to-copy new = record { source = a; target = b; alike = sym differ-is ∙ off; new = sym tells ∙ not-false n new }
+
+-- A PLANNED TREE
+
+-- what holds of some settings and a plan holds of their equals
+along : (P : Settings → Plan → Type 0) {u v : Settings} {p q : Plan} → u ≡ v → p ≡ q → P u p → P v q
+along P {v = v} {p = p} eu ep h = subst (P v) ep (subst (λ (w : Settings). P w p) eu h)
+
+-- a planned tree with its other nodes from slot `next` on: what is asked, and what is left
+abbrev Asks : List ℕ → List ℕ → ℕ → Settings → Plan → Type 0
+Asks l W next st p = ToBuild st W (p .source) (words l) (p .height) (pieceOf p (st .root) next)
+
+abbrev Leaves : List ℕ → List ℕ → List ℕ → ℕ → ℕ → Settings → Plan → Type 0
+Leaves l W W′ next r st p = Built st W W′ (p .height) (treeFor st (entriesIn (p .source) (words l)) (p .height) (pieceOf p (st .root) next)) next r
+
+module _ {l m : List ℕ} {f g : Findings} (k : ToCopy l f m g) where
   abbrev s : SoundPool l
-  s = sound (k .theirs) (k .source)
+  s = found-sound (k .source)
 
   abbrev t : SoundPool m
-  t = sound (k .ours) (k .target)
+  t = found-sound (k .target)
 
-  pub source-in : InPool l (f .settings) (f .height)
-  source-in = in-pool (k .theirs) (k .source)
+  orders : (i : ℕ) → settingsIn l i .order ≡ settingsIn m i .order
+  orders = keeps.orders l m s t (k .alike)
 
-  pub target-in : InPool m (g .settings) (g .height)
-  target-in = in-pool (k .ours) (k .target)
+  -- a plan is made with the source's order, which is the target's too
+  pub plan-is : (i : ℕ) (st : Settings) → st ≡ handed (f .given) i → (p : Plan) → p ≡ planFor l (st .root) (st .order)
+      → p ≡ planFor l (rootFor i) (settingsIn m i .order)
+  plan-is i st e p is =
+      is ∙ ap (λ (u : Settings). planFor l (u .root) (u .order)) (found-settings (k .source) i st e) ∙ ap (planFor l (rootFor i)) (orders i)
 
-  differ-is : differ (f .settings) (g .settings) ≡ differ (settingsIn l) (settingsIn m)
-  differ-is = ap (λ (u : Settings). differ u (g .settings)) (source-in .own) ∙ ap (differ (settingsIn l)) (target-in .own)
+  -- BOTH PLANS
 
-  pub told-17 : (d : Bool) → d ≡ differ (f .settings) (g .settings) → d ≡ true → Packs l m (Pack.Refused 17) m
-  told-17 d e on = refused-17 l m s t (sym differ-is ∙ sym e ∙ on)
+  module _ (p q : Plan) (ep : p ≡ planFor l 0 (settingsIn m 0 .order)) (eq : q ≡ planFor l 1 (settingsIn m 1 .order)) where
+    p-nodes : p .nodes ≡ planFor l 0 (settingsIn m 0 .order) .nodes
+    p-nodes = ap (λ (x : Plan). x .nodes) ep
 
-  -- THEY DO NOT DIFFER
+    q-nodes : q .nodes ≡ planFor l 1 (settingsIn m 1 .order) .nodes
+    q-nodes = ap (λ (x : Plan). x .nodes) eq
 
-  module _ (d : Bool) (ed : d ≡ differ (f .settings) (g .settings)) (off : d ≡ false) where
-    pub alike : differ (settingsIn l) (settingsIn m) ≡ false
-    alike = sym differ-is ∙ sym ed ∙ off
+    pub nodes-few : p .nodes + q .nodes ≤ 8000000
+    nodes-few =
+        omega (
+          arith,
+          p-nodes,
+          q-nodes,
+          plan-few l s 0 (settingsIn m 0 .order) (orders 0),
+          plan-few l s 1 (settingsIn m 1 .order) (orders 1),
+        )
 
-    pub told-18 : (b : Bool) → b ≡ isNew (indexOf m) → not b ≡ true → Packs l m (Pack.Refused 18) m
-    told-18 b e old = refused-18 l m s t alike (sym e ∙ not-true b old)
+    -- THE FIRST TREE, with the settings su
 
--- THE TARGET IS NEW, and the number of entries and the height of their tree are worked out
+    module _ (su : Settings) (handed-first : su ≡ handed (g .given) 0) where
+      first-is : su ≡ settingsIn m 0
+      first-is = found-settings (k .target) 0 su handed-first
 
-pub record Planned (l m : List ℕ) (f g : Findings) (n h : ℕ) : Type 0 where
-  pub both : Sound l m f g
-  pub same : differ (settingsIn l) (settingsIn m) ≡ false
-  pub new : isNew (indexOf m) ≡ true
-  pub entries : n ≡ length (entriesOf (indexOf l))
-  pub height : h ≡ heightFor (g .settings .order) n
+      size : su .nodes ≡ settingsIn m 0 .nodes
+      size = ap (λ (u : Settings). u .nodes) first-is
 
-module _ {l m : List ℕ} {f g : Findings} {n h : ℕ} (k : Planned l m f g n h) where
-  abbrev s₁ : SoundPool l
-  s₁ = sound (k .both .theirs) (k .both .source)
+      pub told-7 : su .nodes < p .nodes + q .nodes → Packs l m (Pack.Refused 7) m
+      told-7 lt = keeps.refused-7 l m s t (k .alike) (k .new) (omega (arith, lt, size, p-nodes, q-nodes))
 
-  abbrev t₁ : SoundPool m
-  t₁ = sound (k .both .ours) (k .both .target)
+      module _ (fits : p .nodes + q .nodes ≤ su .nodes) where
+        room : planFor l 0 (settingsIn m 0 .order) .nodes + planFor l 1 (settingsIn m 1 .order) .nodes ≤ settingsIn m 0 .nodes
+        room = omega (arith, fits, size, p-nodes, q-nodes)
 
-  high : h ≡ heightFor (settingsIn m .order) (length (entriesOf (indexOf l)))
-  high = k .height ∙ ap (λ (u : Settings). heightFor (u .order) n) (target-in (k .both) .own) ∙ ap (heightFor (settingsIn m .order)) (k .entries)
+        pub first-ready : Asks l (words m) 2 su p
+        first-ready = along (Asks l (words m) 2) (sym first-is) (sym ep) (first-asks l m s t orders (k .new) room)
 
-  -- what holds of the pools' own values holds of these, and back
-  here : (P : Settings → Settings → ℕ → ℕ → ℕ → Type 0)
-      → P (settingsIn l) (settingsIn m) (indexOf l .height) (length (entriesOf (indexOf l))) (heightFor (settingsIn m .order) (length (entriesOf (indexOf l))))
-      → P (f .settings) (g .settings) (f .height) n h
-  here P = along P (sym (source-in (k .both) .own)) (sym (target-in (k .both) .own)) (sym (source-in (k .both) .tall)) (sym (k .entries)) (sym high)
+        -- THE SECOND, with the settings sv
 
-  back : (P : Settings → Settings → ℕ → ℕ → ℕ → Type 0) → P (f .settings) (g .settings) (f .height) n h
-      → P (settingsIn l) (settingsIn m) (indexOf l .height) (length (entriesOf (indexOf l))) (heightFor (settingsIn m .order) (length (entriesOf (indexOf l))))
-  back P = along P (source-in (k .both) .own) (target-in (k .both) .own) (source-in (k .both) .tall) (k .entries) high
+        module _ (X : List ℕ) (r : ℕ) (d : Leaves l (words m) X 2 r su p) (sv : Settings) (handed-second : sv ≡ handed (g .given) 1) where
+          second-is : sv ≡ settingsIn m 1
+          second-is = found-settings (k .target) 1 sv handed-second
 
-  pub count-asks : ToCount (g .settings .order) h n
-  count-asks = here (λ u v a i j. ToCount (v .order) j i) (to-count l m s₁ t₁ (k .same))
+          first-done : Leaves l (words m) X 2 r (settingsIn m 0) (planFor l 0 (settingsIn m 0 .order))
+          first-done = along (Leaves l (words m) X 2 r) first-is ep d
 
-  module _ (c : ℕ) (ec : c ≡ packedNodes (g .settings .order) h n) where
-    count-is : c ≡ packedNodes (settingsIn m .order) (heightFor (settingsIn m .order) (length (entriesOf (indexOf l)))) (length (entriesOf (indexOf l)))
-    count-is = back (λ u v a i j. c ≡ packedNodes (v .order) j i) ec
+          pub second-ready : Asks l X r sv q
+          second-ready = along (Asks l X r) (sym second-is) (sym eq) (second-asks l m s t orders (k .new) room X r first-done)
 
-    nodes-are : g .settings .nodes ≡ settingsIn m .nodes
-    nodes-are = ap (λ (u : Settings). u .nodes) (target-in (k .both) .own)
-
-    pub told-7 : g .settings .nodes < c → Packs l m (Pack.Refused 7) m
-    told-7 lt = refused-7 l m s₁ t₁ (k .same) (k .new) (omega (arith, count-is, nodes-are))
-
-    module _ (fits : c ≤ g .settings .nodes) where
-      room : packedNodes (settingsIn m .order) (heightFor (settingsIn m .order) (length (entriesOf (indexOf l)))) (length (entriesOf (indexOf l)))
-          ≤ settingsIn m .nodes
-      room = omega (arith, count-is, nodes-are)
-
-      pub build-ready : ToBuild (g .settings) (words m) (record { settings = f .settings; height = f .height }) (words l) h
-          (record { height = h; slot = g .settings .root; next = 1; from = 0; count = n })
-      build-ready =
-          here (λ u v a i j. ToBuild v (words m) (record { settings = u; height = a }) (words l) j
-          (record { height = j; slot = v .root; next = 1; from = 0; count = i })) (build-asks l m s₁ t₁ (k .same) (k .new) room)
-
-      pub told-done : (m′ : List ℕ) (r : ℕ)
-          → Built (g .settings) (words m) (words m′) h
-          (treeFor (g .settings) (entriesIn (record { settings = f .settings; height = f .height }) (words l)) h
-          (record { height = h; slot = g .settings .root; next = 1; from = 0; count = n })) 1 r
-          → length m′ ≡ length m → Bytes m′ → Packs l m Pack.Done m′
-      told-done m′ r d =
-          packs-done l m s₁ t₁ (k .same) (k .new) room m′ r
-          (back (λ u v a i j. Built v (words m) (words m′) j (treeFor v (entriesIn (record { settings = u; height = a }) (words l)) j
-          (record { height = j; slot = v .root; next = 1; from = 0; count = i })) 1 r) d)
+          pub told-done : (m′ : List ℕ) (y : ℕ) → Leaves l X (words m′) r y sv q → length m′ ≡ length m → Bytes m′ → Packs l m Pack.Done m′
+          told-done m′ y e len bytes =
+              keeps.packs-done l m s t (k .alike) (k .new) room m′
+              (both-built l m s t orders (k .new) room X r first-done (words m′) y (along (Leaves l X (words m′) r y) second-is eq e) m′ refl len bytes)

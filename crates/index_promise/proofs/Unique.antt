@@ -90,20 +90,20 @@ packing-again (Pack.Refused n) = refl
 pub one-opening : (given : PoolSettings) (l k m : List ℕ) (r q : OpenAnswer) → Opens given l r k → Opens given l q m → (r ≡ q) × (k ≡ m)
 one-opening given l k m = one-left (λ u. Open.Done) Open.Refused opening opening-again
 
-pub one-totals : (l : List ℕ) (r q : TotalsAnswer) → Totalling l r → Totalling l q → r ≡ q
-one-totals l r q a b = known Totalled.Done Totalled.Refused totalled totals-again r q (where-unique a b)
+pub one-totals : (l : List ℕ) (i : ℕ) (r q : TotalsAnswer) → Totalling l i r → Totalling l i q → r ≡ q
+one-totals l i r q a b = known Totalled.Done Totalled.Refused totalled totals-again r q (where-unique a b)
 
-pub one-batch : (c : Call) (l k m : List ℕ) (r q : BatchAnswer) → Batches c l r k → Batches c l q m → (r ≡ q) × (k ≡ m)
-one-batch c l k m = one-left Batch.Done Batch.Refused batched batch-again
+pub one-batch : (i : ℕ) (c : Call) (l k m : List ℕ) (r q : BatchAnswer) → Batches i c l r k → Batches i c l q m → (r ≡ q) × (k ≡ m)
+one-batch i c l k m = one-left Batch.Done Batch.Refused batched batch-again
 
-pub one-get : (l ks out k m : List ℕ) (r q : GetAnswer) → Gets l ks out r k → Gets l ks out q m → (r ≡ q) × (k ≡ m)
-one-get l ks out k m = one-left Get.Done Get.Refused got get-again
+pub one-get : (l : List ℕ) (i : ℕ) (ks out k m : List ℕ) (r q : GetAnswer) → Gets l i ks out r k → Gets l i ks out q m → (r ≡ q) × (k ≡ m)
+one-get l i ks out k m = one-left Get.Done Get.Refused got get-again
 
-pub one-scan : (l : List ℕ) (p : Request) (out k m : List ℕ) (r q : ScanAnswer) → Scans l p out r k → Scans l p out q m → (r ≡ q) × (k ≡ m)
-one-scan l p out k m = one-left Scan.Done Scan.Refused scanned scan-again
+pub one-scan : (l : List ℕ) (i : ℕ) (p : Request) (out k m : List ℕ) (r q : ScanAnswer) → Scans l i p out r k → Scans l i p out q m → (r ≡ q) × (k ≡ m)
+one-scan l i p out k m = one-left Scan.Done Scan.Refused scanned scan-again
 
-pub one-frame : (l : List ℕ) (i : ℕ) (line k m : List ℕ) (r q : WriteAnswer) → Frames l i line r k → Frames l i line q m → (r ≡ q) × (k ≡ m)
-one-frame l i line k m = one-left Write.Done Write.Refused lengthTold length-again
+pub one-frame : (l : List ℕ) (i n : ℕ) (line k m : List ℕ) (r q : WriteAnswer) → Frames l i n line r k → Frames l i n line q m → (r ≡ q) × (k ≡ m)
+one-frame l i n line k m = one-left Write.Done Write.Refused lengthTold length-again
 
 pub one-pack : (l m k k′ : List ℕ) (r q : PackAnswer) → Packs l m r k → Packs l m q k′ → (r ≡ q) × (k ≡ k′)
 one-pack l m k k′ = one-left (λ u. Pack.Done) Pack.Refused packing packing-again

@@ -6,15 +6,16 @@ use lib.ListN.{length, drop}
 use Rattle.model.specs.declared.PoolSettings.{PoolSettings}
 use Rattle.model.specs.declared.Totals.{Totals}
 use Rattle.model.specs.declared.Counts.{Counts}
-use Rattle.model.specs.Tree.{totalsOf, newIndex}
+use Rattle.model.specs.Tree.{totalsOf}
 use Rattle.model.specs.Answer.{Answer, refused, done}
 use Rattle.model.specs.declared.Request.{Request}
 use Rattle.model.specs.Look.{Listing, Scanned, scan}
-use Rattle.model.specs.Refuse.{Call, answer, get}
+use Rattle.model.specs.Refuse.{Call, get}
 use Rattle.model.specs.Frame.{writeNode}
-use Rattle.model.specs.Pack.{pack}
-use Rattle.model.specs.Sound.{handed, InLimits}
-use Rattle.tree.specs.Pool.{SoundPool, givenIn, settingsIn, indexOf, imageOf, poolLen}
+use Rattle.model.specs.Forest.{replant, newForest, named, answerAt}
+use Rattle.model.specs.PackForest.{packForest}
+use Rattle.model.specs.Sound.{PoolLimits}
+use Rattle.tree.specs.Pool.{SoundPool, givenIn, indexOf, forestOf, imageOf, poolLen}
 use Rattle.index_promise.specs.declared.OpenAnswer.{OpenAnswer}
 use Rattle.index_promise.specs.declared.OpenAnswer.the-variants as Open
 use Rattle.index_promise.specs.declared.TotalsAnswer.{TotalsAnswer}
@@ -56,7 +57,7 @@ leaves told bytes l (done a) = done (told a) leaving bytes a
 abbrev pub unsound : {A : Type 0} → List ℕ → Left A
 unsound l = refused 2 leaving l
 
--- OPENING a pool of the bytes l with the settings st
+-- OPENING a pool of the bytes l with some settings
 
 abbrev pub opening : OpenAnswer → Answer (Unit {0})
 opening Open.Done = done tt
@@ -64,27 +65,28 @@ opening (Open.Refused n) = refused n
 
 abbrev pub Opens : PoolSettings → List ℕ → OpenAnswer → List ℕ → Type 0
 Opens given l r l′ =
-    Where (InLimits (handed given) × (length l ≡ poolLen given)) (done tt leaving imageOf given (newIndex (given .nodes))) (refused 1 leaving l)
+    Where (PoolLimits given × (length l ≡ poolLen given)) (done tt leaving imageOf given (newForest (given .nodes))) (refused 1 leaving l)
     (opening r leaving l′)
 
--- TOTALS of the pool l
+-- TOTALS of tree i of the pool l
 
 abbrev pub totalled : TotalsAnswer → Answer Totals
 totalled (Totalled.Done t) = done t
 totalled (Totalled.Refused n) = refused n
 
-abbrev pub Totalling : List ℕ → TotalsAnswer → Type 0
-Totalling l r = Where (SoundPool l) (done (totalsOf (indexOf l))) (refused 2) (totalled r)
+abbrev pub Totalling : List ℕ → ℕ → TotalsAnswer → Type 0
+Totalling l i r = Where (SoundPool l) (named i (done (totalsOf (indexOf l i)))) (refused 2) (totalled r)
 
--- A BATCH c on the pool l
+-- A BATCH c on tree i of the pool l
 
 abbrev pub batched : BatchAnswer → Answer Counts
 batched (Batch.Done c) = done c
 batched (Batch.Refused n) = refused n
 
-abbrev pub Batches : Call → List ℕ → BatchAnswer → List ℕ → Type 0
-Batches c l r l′ =
-    Where (SoundPool l) (leaves (λ b. b .counts) (λ b. imageOf (givenIn l) (b .index)) l (answer (settingsIn l) c (indexOf l)))
+abbrev pub Batches : ℕ → Call → List ℕ → BatchAnswer → List ℕ → Type 0
+Batches i c l r l′ =
+    Where (SoundPool l)
+    (leaves (λ b. b .counts) (λ b. imageOf (givenIn l) (replant i (b .index) (forestOf l))) l (answerAt (givenIn l) i c (forestOf l)))
     (unsound l) (batched r leaving l′)
 
 -- GET AND SCAN write the first entries that fit whole, and leave every byte behind them as it was
@@ -99,9 +101,9 @@ abbrev pub got : GetAnswer → Answer Listed
 got (Get.Done g) = done g
 got (Get.Refused n) = refused n
 
-abbrev pub Gets : List ℕ → List ℕ → List ℕ → GetAnswer → List ℕ → Type 0
-Gets l ks out r out′ =
-    Where (SoundPool l) (leaves listed (written out) out (get ks (roomIn out) (indexOf l))) (unsound out) (got r leaving out′)
+abbrev pub Gets : List ℕ → ℕ → List ℕ → List ℕ → GetAnswer → List ℕ → Type 0
+Gets l i ks out r out′ =
+    Where (SoundPool l) (leaves listed (written out) out (named i (get ks (roomIn out) (indexOf l i)))) (unsound out) (got r leaving out′)
 
 abbrev pub swept : Scanned → Told.Scanned
 swept s = record { written = length (s .listed .written); more = s .listed .more; opened = s .opened }
@@ -110,20 +112,20 @@ abbrev pub scanned : ScanAnswer → Answer Told.Scanned
 scanned (Scan.Done s) = done s
 scanned (Scan.Refused n) = refused n
 
-abbrev pub Scans : List ℕ → Request → List ℕ → ScanAnswer → List ℕ → Type 0
-Scans l q out r out′ =
-    Where (SoundPool l) (leaves swept (λ s. written out (s .listed)) out (done (scan q (roomIn out) (indexOf l)))) (unsound out)
+abbrev pub Scans : List ℕ → ℕ → Request → List ℕ → ScanAnswer → List ℕ → Type 0
+Scans l i q out r out′ =
+    Where (SoundPool l) (leaves swept (λ s. written out (s .listed)) out (named i (done (scan q (roomIn out) (indexOf l i))))) (unsound out)
     (scanned r leaving out′)
 
--- THE I-TH FRAME of the pool l, written into a line; every byte behind it is as it was. What writing a frame from a kind and entries, and reading one,
+-- THE N-TH FRAME of tree i of the pool l, written into a line; every byte behind it is as it was. What writing a frame from a kind and entries, and reading one,
 -- promise stands in crate frame_text (specs/Answers): these two are given no pool.
 
-abbrev pub Frames : List ℕ → ℕ → List ℕ → WriteAnswer → List ℕ → Type 0
-Frames l i line r line′ =
-    Where (SoundPool l) (leaves length (λ s. s ++ drop (length s) line) line (writeNode i (length line) (indexOf l))) (unsound line)
+abbrev pub Frames : List ℕ → ℕ → ℕ → List ℕ → WriteAnswer → List ℕ → Type 0
+Frames l i n line r line′ =
+    Where (SoundPool l) (leaves length (λ s. s ++ drop (length s) line) line (named i (writeNode n (length line) (indexOf l i)))) (unsound line)
     (lengthTold r leaving line′)
 
--- PACKING the pool l into the pool m, which alone is written
+-- PACKING both trees of the pool l into the pool m, which alone is written
 
 abbrev pub packing : PackAnswer → Answer (Unit {0})
 packing Pack.Done = done tt
@@ -131,5 +133,5 @@ packing (Pack.Refused n) = refused n
 
 abbrev pub Packs : List ℕ → List ℕ → PackAnswer → List ℕ → Type 0
 Packs l m r m′ =
-    Where (SoundPool l × SoundPool m) (leaves (λ x. tt) (imageOf (givenIn m)) m (pack (settingsIn l) (settingsIn m) (indexOf l) (indexOf m)))
+    Where (SoundPool l × SoundPool m) (leaves (λ f. tt) (imageOf (givenIn m)) m (packForest (givenIn l) (givenIn m) (forestOf l) (forestOf m)))
     (unsound m) (packing r leaving m′)

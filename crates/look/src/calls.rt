@@ -1,4 +1,4 @@
-// The calls: what a sound pool holds, told by its index. `st` and `height` are the pool's own; the caller
+// The calls: what a tree of a sound pool holds, told by its index. `st` and `height` are the tree's own; the caller
 // has read them when it tested the pool.
 ghost use mathlib.Core.Path.{_≡_};
 ghost use Rattle.model.specs.Tree.{totalsOf};
@@ -19,7 +19,7 @@ use model::Totals;
 // The totals of the whole tree.
 pub fn totals(pool: &[u8], st: Settings, height: usize) -> Totals
     requires { ⌜ InPool (now pool) st height ⌝ }
-    ensures { λ r. ⌜ r ≡ totalsOf (indexOf (now (pool .entry))) ⌝ }
+    ensures { λ r. ⌜ r ≡ totalsOf (indexOf (now (pool .entry)) (st .root)) ⌝ }
 {
     tree_node::stats(pool, st, height, st.root)
 }
@@ -28,7 +28,7 @@ pub fn totals(pool: &[u8], st: Settings, height: usize) -> Totals
 pub fn get(pool: &[u8], st: Settings, height: usize, keys: &[u64], out: &mut [u8]) -> Listed
     requires { ⌜ InPool (now pool) st height ⌝ }
     ensures { λ r.
-        ⌜ Written (getAll (now (keys .entry)) (roomIn (now (out .entry))) (indexOf (now (pool .entry)))) (now (out .entry)) (r .written)
+        ⌜ Written (getAll (now (keys .entry)) (roomIn (now (out .entry))) (indexOf (now (pool .entry)) (st .root))) (now (out .entry)) (r .written)
         (r .more) (now (out .exit)) ⌝ }
 {
     let room = out.len() / 24;
@@ -39,9 +39,9 @@ pub fn get(pool: &[u8], st: Settings, height: usize, keys: &[u64], out: &mut [u8
 pub fn scan(pool: &[u8], st: Settings, height: usize, q: Request, out: &mut [u8]) -> Scanned
     requires { ⌜ InPool (now pool) st height ⌝ }
     ensures written { λ r.
-        ⌜ Written (look.scan q (roomIn (now (out .entry))) (indexOf (now (pool .entry))) .listed) (now (out .entry)) (r .written) (r .more)
+        ⌜ Written (look.scan q (roomIn (now (out .entry))) (indexOf (now (pool .entry)) (st .root)) .listed) (now (out .entry)) (r .written) (r .more)
         (now (out .exit)) ⌝ }
-    ensures opened { λ r. ⌜ r .opened ≡ look.scan q (roomIn (now (out .entry))) (indexOf (now (pool .entry))) .opened ⌝ }
+    ensures opened { λ r. ⌜ r .opened ≡ look.scan q (roomIn (now (out .entry))) (indexOf (now (pool .entry)) (st .root)) .opened ⌝ }
 {
     let w = Scanned {
         written: 0,

@@ -2,31 +2,30 @@
 use mathlib.Core.Path.{_≡_, refl, sym, ap, _∙_}
 use mathlib.Core.Logic.{_⊎_, inl, inr}
 use mathlib.Core.Bool.{Bool, true, false, _&&_, _||_, not, true≢false}
-use mathlib.Core.List.{List, [], _∷_, map}
+use mathlib.Core.List.{List, [], _∷_, _++_, map}
 use Prim.Native.Nat.{ℕ, suc, _-_, _^_, _≤_, _<_}
 use native.Mathlib.Omega.{arith}
 use lib.Dec.{leb, ltb, eqb}
 use lib.ListN.{length, length-map}
 use borrow.Author.Tests.{ltb-false, leb-false, eqb-true, not-false}
 use Rattle.model.specs.declared.Reference.{Reference}
-use Rattle.model.specs.declared.PoolSettings.{PoolSettings}
 use Rattle.model.specs.declared.Settings.{Settings}
 use Rattle.model.specs.declared.Action.{Action}
 use Rattle.model.specs.declared.Action.the-variants as Do
 use Rattle.model.specs.declared.Operation.{Operation}
 use Rattle.model.specs.declared.Operation.the-variants as Op
 use Rattle.model.specs.Lists.{All, none, one, nil, cons}
-use Rattle.model.specs.Tree.{Index, depth, newIndex}
+use Rattle.model.specs.Tree.{Index, depth}
 use Rattle.model.specs.declared.Wish.{Wish}
 use Rattle.model.specs.declared.Wish.the-variants.{Always}
 use Rattle.model.specs.Plain.{references, Task, each, pairs, tasksFor}
 use Rattle.model.specs.Change.{noCeiling}
 use Rattle.model.specs.Refuse.{Call, tasksOf, isRemove, isEach, descend, needed, callRefusal, treeRefusal, refusal}
-use Rattle.model.specs.Sound.{rootFor, handed, InLimits, Sound, Alone, Fits}
+use Rattle.model.specs.Sound.{InLimits, Ascending, Once, Sound, Fits}
 use Rattle.model.specs.Demands.{ReferenceFits, ActionFits, OperationFits, Lent}
+use Rattle.model.specs.Forest.{indexWith, bareLeaf}
 use Rattle.model.specs.Contracts.{Rising, Removing, Grants}
 use Rattle.model.proofs.Lists.{by-test, both-left, both-right, or-left, or-right, all-map}
-use Rattle.model.proofs.Numbers.{run-up, once-up}
 use Rattle.model.proofs.Batches.{Room, Headroom}
 
 -- WHAT NO REFUSAL SAYS
@@ -211,19 +210,20 @@ passes st c x s lent q =
     by-headroom e (inl r) = inr (omega (arith, s .shallow), removes e (either (eqb (length (c .keys)) 0) (isRemove (c .operation)) r))
     by-headroom e (inr g) = inl (omega (arith, g .0))
 
--- A NEW INDEX IS SOUND
+-- A NEW TREE IS SOUND
 
-pub new-sound : (given : PoolSettings) → InLimits (handed given) → Alone (handed given) (newIndex (given .nodes))
-unfolding rootFor
-new-sound given lim =
+-- an empty leaf in the root's slot is, whatever is in use elsewhere, where each slot is used once or unused once
+pub bare-sound : (st : Settings) (away us : List ℕ) → InLimits st → Once (st .nodes) (away ++ (st .root ∷ [])) us → Ascending us
+    → Sound st away (indexWith (bareLeaf (st .root)) us)
+bare-sound st away us lim once up =
     record {
       settings = lim;
       rootSlot = refl;
-      once = once-up (given .nodes) 1 (omega (arith, lim .many));
+      once = once;
       shallow = omega arith;
       rooted = omega arith;
       whole = none;
       sorted = nil;
       fit = none;
-      ascending = run-up 1 (given .nodes - 1);
+      ascending = up;
     }

@@ -1,26 +1,25 @@
 -- Every statement of specs/Demands.antt, proved. Assumes nothing.
-use mathlib.Core.Path.{_≡_, refl, sym, ap, _∙_}
+use mathlib.Core.Path.{_≡_, sym, ap, _∙_}
 use mathlib.Core.Logic.{_≢_}
-use mathlib.Core.List.{List, [], map}
+use mathlib.Core.List.{List, map}
 use Prim.Native.Nat.{ℕ, zero, suc, suc-le-suc}
 use native.Mathlib.Omega.{arith}
 use Rattle.model.specs.declared.Entry.{Entry}
 use Rattle.model.specs.declared.Settings.{Settings}
-use Rattle.model.specs.Lists.{All, none, one}
-use Rattle.model.specs.Tree.{Index, Tree, slotsOf, entriesOf, adds, sumOf, newIndex}
+use Rattle.model.specs.Lists.{All}
+use Rattle.model.specs.Tree.{Index, Tree, slotsOf, entriesOf, adds, sumOf}
 use Rattle.model.specs.Plain.{Task, references, plainList, plainCounts, noCounts}
 use Rattle.model.specs.Change.{batch}
-use Rattle.model.specs.Answer.{unless}
 use Rattle.model.specs.Look.{listing, found, dueIn}
-use Rattle.model.specs.Refuse.{Call, tasksOf, refusal, indexAfter}
-use Rattle.model.specs.Sound.{handed, Rooted, Sound}
-use Rattle.model.specs.Demands.{Lent, OneBatch, RemoveTakesNone, NoInteriorPasses, runAll, plainAfter, plainAll, AnswersFrom, Demand3, Swap, Demands}
+use Rattle.model.specs.Refuse.{Call, tasksOf, refusal}
+use Rattle.model.specs.Sound.{Rooted, Sound}
+use Rattle.model.specs.Demands.{Lent, OneBatch, RemoveTakesNone, NoInteriorPasses, AnswersFrom, Swap, Demands}
 use Rattle.model.specs.Contracts.{Ready}
 use Rattle.model.proofs.Lists.{all-map, all-swap, times-append}
 use Rattle.model.proofs.Plain.{list-sorted, list-all, Differs, list-swap, counts-swap}
 use Rattle.model.proofs.Trees.{total-list}
 use Rattle.model.proofs.Batches.{Fine, BatchOwes, batch-law}
-use Rattle.model.proofs.Calls.{Passes, passes, removing, all-keys, new-sound}
+use Rattle.model.proofs.Calls.{Passes, passes, removing, all-keys}
 use Rattle.model.proofs.Scans.{openings-law}
 use Rattle.model.proofs.OverFull.{over-full-child}
 use Rattle.model.proofs.Separators.{shared-separators, sound-separators}
@@ -67,23 +66,23 @@ module _ (st : Settings) (c : Call) {elsewhere : List ℕ} (x : Index) (s : Soun
       }
 
 pub one-batch : OneBatch
-one-batch st c x s lent q =
+one-batch st elsewhere c x s lent q =
     let o = owes st c x s lent q in
     record { list = o .list; counts = o .counts; left = o .left; sound = batch-sound st c x s lent q }
 
 pub remove-takes-none : RemoveTakesNone
-remove-takes-none st c x s lent q e =
+remove-takes-none st elsewhere c x s lent q e =
     let o = owes st c x s lent q in
     let rem = removing (c .operation) (references (c .places) (c .sizes)) (c .keys) e in
     (o .grows rem, suc-le-suc (o .lower rem))
 
 pub no-interior-passes : NoInteriorPasses
-no-interior-passes st c x s lent q calls =
+no-interior-passes st elsewhere c x s lent q calls =
     let p : Passes st c x = passes st c x s lent q in
     uncrowded st (s .settings) _ _ _ _
     (root-given st (s .settings) calls x (tasksOf c) noCounts (p .short) (sound-fine st x s) (p .rising) (p .low))
 
--- ANY SEQUENCE
+-- WHAT A TREE ANSWERS FROM
 
 pub answers-from : (x : Index) (es : List Entry) → entriesOf x ≡ es → AnswersFrom es x
 answers-from x es e =
@@ -94,44 +93,17 @@ answers-from x es e =
       totals = total-list (suc (x .height)) (x .root) ∙ ap (λ (fs : List Entry). sumOf (map adds fs)) e;
     }
 
--- the index and the list after one more call
-pub record Kept (st : Settings) (elsewhere : List ℕ) (es : List Entry) (x : Index) : Type 0 where
-  pub sound : Sound st elsewhere x
-  pub list : entriesOf x ≡ es
-
-keeps : (st : Settings) {elsewhere : List ℕ} (c : Call) (x : Index) (es : List Entry) → Lent c → Kept st elsewhere es x
-    → Kept st elsewhere (plainAfter (refusal st c x) (tasksOf c) es) (indexAfter x (unless (refusal st c x) (batch st (tasksOf c) x)))
-keeps st {elsewhere} c x es lent k = by (refusal st c x) refl
-  where
-    by : (n : ℕ) → refusal st c x ≡ n → Kept st elsewhere (plainAfter n (tasksOf c) es) (indexAfter x (unless n (batch st (tasksOf c) x)))
-    by zero q =
-        let list = owes st c x (k .sound) lent q .list in
-        record { sound = batch-sound st c x (k .sound) lent q; list = list ∙ ap (plainList (tasksOf c)) (k .list) }
-    by (suc n) q = k
-
-sequence : (st : Settings) {elsewhere : List ℕ} {cs : List Call} (x : Index) (es : List Entry) → All Lent cs → Kept st elsewhere es x
-    → Kept st elsewhere (plainAll st cs x es) (runAll st cs x)
-sequence st x es none k = k
-sequence st x es (one {x = c} h hs) k = sequence st _ _ hs (keeps st c x es h k)
-
-pub demand-3 : Demand3
-demand-3 given cs lim lent =
-    let st : Settings = handed given in
-    let k : Kept st [] (plainAll st cs (newIndex (st .nodes)) []) (runAll st cs (newIndex (st .nodes))) =
-    sequence st (newIndex (st .nodes)) [] lent (record { sound = new-sound given lim; list = refl }) in
-    (k .sound, answers-from (runAll st cs (newIndex (st .nodes))) (plainAll st cs (newIndex (st .nodes)) []) (k .list))
-
 -- TWO NEIGHBOURS
 
 differ : (ts us : List Task) → All (λ k. All (λ j. k ≢ j) (map (λ u. u .key) us)) (map (λ t. t .key) ts) → All (λ t. Differs t us) ts
 differ ts us h = all-map (λ t g. all-keys (λ j. t .key ≢ j) us g) (all-keys (λ k. All (λ j. k ≢ j) (map (λ u. u .key) us)) ts h)
 
 pub swap : Swap
-swap st c d x s lc ld apart qc qcd qd qdc =
-    let cx = one-batch st c x s lc qc in
-    let dx = one-batch st d x s ld qd in
-    let cd = one-batch st d (batch st (tasksOf c) x .index) (cx .sound) ld qcd in
-    let dc = one-batch st c (batch st (tasksOf d) x .index) (dx .sound) lc qdc in
+swap st elsewhere c d x s lc ld apart qc qcd qd qdc =
+    let cx = one-batch st elsewhere c x s lc qc in
+    let dx = one-batch st elsewhere d x s ld qd in
+    let cd = one-batch st elsewhere d (batch st (tasksOf c) x .index) (cx .sound) ld qcd in
+    let dc = one-batch st elsewhere c (batch st (tasksOf d) x .index) (dx .sound) lc qdc in
     let pc = passes st c x s lc qc in
     let pd = passes st d x s ld qd in
     let far : All (λ t. Differs t (tasksOf d)) (tasksOf c) = differ (tasksOf c) (tasksOf d) (rw (pc .keys, pd .keys) apart) in
@@ -154,9 +126,8 @@ demands =
       overFullChild = over-full-child;
       sharedSeparators = shared-separators;
       soundSeparators = sound-separators;
-      demand3 = demand-3;
       swap = swap;
-      openingsList = λ st q x s. openings-law q st (x .height) (x .root) (s .whole) (s .sorted);
+      openingsList = λ st elsewhere q x s. openings-law q st (x .height) (x .root) (s .whole) (s .sorted);
       readUndoesWrite = read-written;
       writeUndoesRead = write-read;
       framesRead = frames-read;

@@ -9,9 +9,9 @@ use lib.ListN.{length}
 use Rattle.model.specs.declared.Entry.{Entry}
 use Rattle.model.specs.declared.Settings.{Settings}
 use Rattle.model.specs.Lists.{All, none, one}
-use Rattle.model.specs.Tree.{Tree, Index, len, entries, slots}
+use Rattle.model.specs.Tree.{Tree, Index, len, entries, slots, entriesOf}
 use Rattle.model.specs.Sound.{Whole, Rooted}
-use Rattle.model.specs.Packing.{lengthsAt, Full, IsPacked, Over, Least}
+use Rattle.model.specs.Packing.{lengthsAt, level, Full, Over, Least}
 use Rattle.model.proofs.Trees.{root-few}
 use Rattle.model.proofs.Levels.{sum, level-leaf, level-top, leaves-sum, level-sum, level-each, root-some, root-two}
 use Rattle.model.proofs.Levels.{lowNodes, low-grows, all-levels}
@@ -109,8 +109,8 @@ smaller o wide g h s t m n full e =
 -- A PACKED INDEX
 
 pub least-law : (o : ℕ) (st : Settings) (es : List Entry) (x : Index) → 1 ≤ o → st .order ≡ o → All (Whole st (x .height)) (x .root .items)
-    → Rooted st (x .height) (x .root) → IsPacked o es x → Least o es x
-least-law o st es x wide e w r p =
+    → Rooted st (x .height) (x .root) → entriesOf x ≡ es → ((j : ℕ) → Full o (level j x)) → Least o es x
+least-law o st es x wide e w r same full =
     record {
       levels = λ y v. compare y v .levels;
       shallow = λ y v. omega (arith, compare y v .shallow);
@@ -120,5 +120,5 @@ least-law o st es x wide e w r p =
     compare : (y : Index) → Over o es y → Smaller (x .height) (y .height) (x .root) (y .root)
     compare y v =
         smaller o wide (x .height) (y .height) (x .root) (y .root) (record { settings = st; order = e; whole = w; rooted = r })
-        (record { settings = v .settings; order = v .order; whole = v .sound .whole; rooted = v .sound .rooted }) (p .full)
-        (ap length (p .same ∙ sym (v .entries)))
+        (record { settings = v .settings; order = v .order; whole = v .sound .whole; rooted = v .sound .rooted }) full
+        (ap length (same ∙ sym (v .entries)))

@@ -24,4 +24,7 @@ pub mod Only
 pub mod Packing
 pub mod LiveSizes
 pub mod Demands
+pub mod Forest
+pub mod TwoTrees
+pub mod PackForest
 pub mod Cases

@@ -123,7 +123,7 @@ module _ (q : Request) where
       h n tt
 
 pub lists-stay : ListsStay
-lists-stay st q room x s =
+lists-stay st elsewhere q room x s =
     ap (listing room) (sym (openings-law q st (x .height) (x .root) (s .whole) (s .sorted)) ∙ thin-joined (openings-kept q (x .height) (x .root)))
 
 pub opens-no-more : OpensNoMore

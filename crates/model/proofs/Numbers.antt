@@ -125,3 +125,8 @@ once-up n k le s =
 
     outside : n ≤ s → times s (upFrom 0 k) + times s (upFrom k (n - k)) ≡ 0
     outside past = omega (arith, run-above s 0 k (omega arith), run-above s k (n - k) (omega arith))
+
+-- where those in use are the first k, in whatever order, the unused ones are the others
+pub unused-only : (n k : ℕ) (used us : List ℕ) → k ≤ n → ((s : ℕ) → times s used ≡ times s (upFrom 0 k)) → Once n used us → Ascending us
+    → us ≡ upFrom k (n - k)
+unused-only n k used us le first once up = ascending-same up (run-up k (n - k)) (λ s. omega (arith, first s, once s, once-up n k le s))

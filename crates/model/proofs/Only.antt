@@ -9,18 +9,18 @@ use native.Mathlib.Nat.{le-refl, le-trans}
 use lib.ListN.{length, take, drop, length-append, drop-of-length-le}
 use lib.Seq.{take-all, take-at, drop-at}
 use Rattle.model.specs.declared.Entry.{Entry}
-use Rattle.model.specs.declared.PoolSettings.{PoolSettings}
 use Rattle.model.specs.declared.Settings.{Settings}
 use Rattle.model.specs.Lists.{upFrom, All, none, one}
 use Rattle.model.specs.Tree.{Tree, Index, len, entries, slots, entriesOf, slotsOf}
 use Rattle.model.specs.Frame.{nodesIn}
-use Rattle.model.specs.Sound.{rootFor, handed, Whole, Rooted, Ascending, Once, Alone}
+use Rattle.model.specs.Sound.{Whole, Rooted, Sound}
 use Rattle.model.specs.Contracts.{flat}
-use Rattle.model.specs.Pack.{capacity, heightFor, pieces, inPreorder, packed, packedIndex}
-use Rattle.model.specs.Packing.{lengthsAt, Full, IsPacked}
+use Rattle.model.specs.Pack.{capacity, heightFor, pieces, inPreorder, packed}
+use Rattle.model.specs.Packing.{lengthsAt, Full}
+use Rattle.model.specs.Forest.{indexWith}
+use Rattle.model.specs.PackForest.{packedTree, IsPackedTree}
 use Rattle.model.proofs.Lists.{all-left, all-right, all-head}
-use Rattle.model.proofs.Numbers.{ascending-same, run-up, once-up}
-use Rattle.model.proofs.Trees.{flat-zero, slotsIn, separator-ends, root-few, once-count}
+use Rattle.model.proofs.Trees.{flat-zero, slotsIn, separator-ends, root-few}
 use Rattle.model.proofs.Pieces.{capacity-up, height-fits, height-least}
 use Rattle.model.proofs.Packs.{tree-fits}
 use Rattle.model.proofs.Levels.{lengthsIn, level-top, level-below, row-some}
@@ -193,57 +193,47 @@ smaller-short st wide (suc h) t r w full j lt =
     row-over st h (t .items) (r .0) w (λ i le. subst (Full (st .order)) (level-below i h t le) (full i)) in
     omega (arith, capacity-up (st .order) wide j h (omega arith))
 
--- THE UNUSED SLOTS are the others
-
-unused-only : (n k : ℕ) (us : List ℕ) → k ≤ n → Once n (upFrom 0 k) us → Ascending us → us ≡ upFrom k (n - k)
-unused-only n k us le once up = ascending-same up (run-up k (n - k)) (λ s. omega (arith, once s, once-up n k le s))
-
 -- THE INDEX
 
--- some entries packed into a tree of height h
-abbrev packedAt : PoolSettings → List Entry → ℕ → Index
-packedAt given es h =
-    let t : Tree h = packed (given .order) h 0 1 es in
-    record { height = h; root = t; unused = upFrom (nodesIn (suc h) t) (given .nodes - nodesIn (suc h) t) }
+-- slots that go out so from i on, behind the first, which is s
+abbrev Behind : ℕ → ℕ → List ℕ → Type 0
+Behind s i [] = Unit {0}
+Behind s i (r ∷ l) = (r ≡ s) × InTurn i l
 
-pub only-law : (given : PoolSettings) (es : List Entry) (z : Index) → Alone (handed given) z → IsPacked (given .order) es z
-    → z ≡ packedIndex (handed given) es
-unfolding rootFor
-only-law given es z s p = made ∙ ap (packedAt given es) height
+-- a sound tree that is packed is the packed one, whatever is in use elsewhere
+pub only-tree : (st : Settings) {away : List ℕ} (i : ℕ) (es : List Entry) (z : Index) → Sound st away z → IsPackedTree (st .order) (st .root) i es z
+    → z ≡ indexWith (packedTree st i es) (z .unused)
+only-tree st i es z s p = made ∙ ap packedAt height
   where
-    turn : (z .root .slot ≡ 0) × InTurn 1 (slotsIn (z .height) (z .root .items))
-    turn = subst (InTurn 0) (sym (p .preorder)) (turn-up 0 (length (slotsOf z)))
+    -- the entries packed into a tree of height h
+    packedAt : ℕ → Index
+    packedAt h = record { height = h; root = packed (st .order) h (st .root) i es; unused = z .unused }
 
-    few : len (z .root) ≤ given .order
-    few = root-few (handed given) (z .height) (z .root) (s .rooted)
+    turn : (z .root .slot ≡ st .root) × InTurn i (slotsIn (z .height) (z .root .items))
+    turn = subst (Behind (st .root) i) (sym (p .preorder)) (refl, turn-up i (length (slotsOf z) - 1))
 
-    tree : z .root ≡ packed (given .order) (z .height) 0 1 es
+    few : len (z .root) ≤ st .order
+    few = root-few st (z .height) (z .root) (s .rooted)
+
+    tree : z .root ≡ packed (st .order) (z .height) (st .root) i es
     tree =
-        tree-only (handed given) (z .height) (z .root) 1 few (s .whole) (λ j le. p .full j) (turn .1)
-        ∙ ap₂ (λ (k : ℕ) (fs : List Entry). packed (given .order) (z .height) k 1 fs) (turn .0) (p .same)
+        tree-only st (z .height) (z .root) i few (s .whole) (λ j le. p .full j) (turn .1)
+        ∙ ap₂ (λ (k : ℕ) (fs : List Entry). packed (st .order) (z .height) k i fs) (turn .0) (p .same)
 
-    left : z .unused ≡ upFrom (length (slotsOf z)) (given .nodes - length (slotsOf z))
-    left =
-        unused-only (given .nodes) (length (slotsOf z)) (z .unused) (omega (arith, once-count (given .nodes) (slotsOf z) (z .unused) (s .once)))
-        (subst (λ (l : List ℕ). Once (given .nodes) l (z .unused)) (p .preorder) (s .once)) (s .ascending)
+    made : z ≡ packedAt (z .height)
+    made = λ j. record { height = z .height; root = tree j; unused = z .unused }
 
-    made : z ≡ packedAt given es (z .height)
-    made =
-        let q : z .unused ≡ packedAt given es (z .height) .unused =
-        left ∙ ap (λ (t : Tree (z .height)). upFrom (nodesIn (suc (z .height)) t) (given .nodes - nodesIn (suc (z .height)) t)) tree in
-        λ j. record { height = z .height; root = tree j; unused = q j }
-
-    height : z .height ≡ heightFor (given .order) (length es)
+    height : z .height ≡ heightFor (st .order) (length es)
     height =
-        let o : ℕ = given .order in
+        let o : ℕ = st .order in
         let wide : 1 ≤ o = omega (arith, s .settings .wide) in
         let n : length (entriesOf z) ≡ length es = ap length (p .same) in
-        let fits : length es ≤ capacity o (z .height) = omega (arith, tree-fits (handed given) (z .height) (z .root) few (s .whole)) in
+        let fits : length es ≤ capacity o (z .height) = omega (arith, tree-fits st (z .height) (z .root) few (s .whole)) in
         let all : length es ≤ capacity o 7 = le-trans fits (capacity-up o wide (z .height) 7 (omega (arith, s .shallow))) in
         by (decLt (heightFor o (length es)) (z .height)) (height-least o (length es) (z .height) fits)
-        (λ lt. omega (arith, height-fits o (length es) all, smaller-short (handed given) wide (z .height) (z .root) (s .rooted) (s .whole) (p .full) _ lt))
+        (λ lt. omega (arith, height-fits o (length es) all, smaller-short st wide (z .height) (z .root) (s .rooted) (s .whole) (p .full) _ lt))
       where
-        by : Dec (heightFor (given .order) (length es) < z .height) → heightFor (given .order) (length es) ≤ z .height
-            → (heightFor (given .order) (length es) < z .height → ⊥) → z .height ≡ heightFor (given .order) (length es)
+        by : Dec (heightFor (st .order) (length es) < z .height) → heightFor (st .order) (length es) ≤ z .height
+            → (heightFor (st .order) (length es) < z .height → ⊥) → z .height ≡ heightFor (st .order) (length es)
         by (yes lt) le not = absurd (not lt)
         by (no ge) le not = omega arith

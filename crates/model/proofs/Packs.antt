@@ -11,18 +11,19 @@ use lib.Dec.{eqb}
 use lib.ListN.{length, length-append}
 use borrow.Author.Tests.{eqb-true}
 use Rattle.model.specs.declared.Entry.{Entry}
-use Rattle.model.specs.declared.PoolSettings.{PoolSettings}
 use Rattle.model.specs.declared.Settings.{Settings}
-use Rattle.model.specs.Lists.{concat, times, upFrom, All, none, one}
-use Rattle.model.specs.Tree.{Tree, Index, len, entries, slots, entriesOf, slotsOf, newIndex}
+use Rattle.model.specs.Lists.{concat, upFrom, All, none, one}
+use Rattle.model.specs.Tree.{Tree, Index, len, entries, slots, entriesOf, slotsOf}
 use Rattle.model.specs.Frame.{nodesIn}
-use Rattle.model.specs.Sound.{rootFor, handed, InLimits, Whole, Rooted, Sorted, Fits, Once, Alone}
+use Rattle.model.specs.Sound.{InLimits, Whole, Rooted, Sorted, Fits, Ascending, Once, Sound}
 use Rattle.model.specs.Contracts.{flat}
-use Rattle.model.specs.Pack.{capacity, heightFor, pieces, inPreorder, packed, packedIndex}
-use Rattle.model.specs.Packing.{lengthsAt, Full, IsPacked, Over, NewIs, NewIsNew}
+use Rattle.model.specs.Pack.{capacity, heightFor, pieces, inPreorder, packed, isNew}
+use Rattle.model.specs.Packing.{lengthsAt, Full, Over}
+use Rattle.model.specs.Forest.{bareLeaf, indexWith}
+use Rattle.model.specs.PackForest.{packedTree, IsPackedTree}
 use Rattle.model.proofs.Lists.{by-test, both-left, both-right, all-append, all-every, all-both}
 use Rattle.model.proofs.Trees.{flat-zero, slotsIn, leaf-bare, root-few}
-use Rattle.model.proofs.Numbers.{ascending-same, up-append, run-up, once-up}
+use Rattle.model.proofs.Numbers.{up-append}
 use Rattle.model.proofs.Pieces.{capacity-some, capacity-up, height-fits, height-most, height-least, full-append, pieces-join, pieces-few, pieces-small, pieces-some, pieces-full, pieces-even, pieces-all, pieces-one, pieces-two}
 
 -- SIBLINGS, made by a function that packs each
@@ -202,77 +203,65 @@ module _ {o : ℕ} {es : List Entry} {y : Index} (v : Over o es y) where
   pub over-fit : All Fits es
   over-fit = subst (All Fits) (v .entries) (v .sound .fit)
 
--- THE PACKED INDEX
+-- A PACKED TREE over the entries of a sound index, wherever its other nodes stand and whatever slots are unused
 
-module _ (given : PoolSettings) (es : List Entry) (x : Index) (lim : InLimits (handed given)) (v : Over (given .order) es x) where
-  packed-fits : length es ≤ capacity (given .order) (heightFor (given .order) (length es))
-  packed-fits = height-fits (given .order) (length es) (over-fits v)
+module _ (st : Settings) (i : ℕ) (es : List Entry) (us : List ℕ) {x : Index} (v : Over (st .order) es x) where
+  packed-fits : length es ≤ capacity (st .order) (heightFor (st .order) (length es))
+  packed-fits = height-fits (st .order) (length es) (over-fits v)
 
-  pub is-packed : IsPacked (given .order) es (packedIndex (handed given) es)
-  unfolding rootFor
-  is-packed =
-      let o : ℕ = given .order in
+  pub is-packed-tree : IsPackedTree (st .order) (st .root) i es (indexWith (packedTree st i es) us)
+  is-packed-tree =
+      let o : ℕ = st .order in
       let h : ℕ = heightFor o (length es) in
       record {
-        same = packed-entries o h 0 1 es packed-fits;
-        full = λ j. packed-full o (omega (arith, lim .wide)) j h 0 1 es packed-fits;
-        preorder = packed-preorder o h 0 es;
+        same = packed-entries o h (st .root) i es packed-fits;
+        full = λ j. packed-full o (omega (arith, over-wide v)) j h (st .root) i es packed-fits;
+        preorder = packed-slots o h (st .root) i es;
       }
 
-  pub packed-sound : length (slotsOf (packedIndex (handed given) es)) ≤ given .nodes → Alone (handed given) (packedIndex (handed given) es)
-  unfolding rootFor
-  packed-sound enough =
-      let st : Settings = handed given in
-      let o : ℕ = given .order in
+  pub packed-tree-whole : All (Whole st (packedTree st i es .height)) (packedTree st i es .root .items)
+  packed-tree-whole = packed-items st (omega (arith, over-wide v)) (heightFor (st .order) (length es)) (st .root) i es
+
+  pub packed-tree-rooted : Rooted st (packedTree st i es .height) (packedTree st i es .root)
+  packed-tree-rooted =
+      packed-rooted st (omega (arith, over-wide v)) (heightFor (st .order) (length es)) (st .root) i es packed-fits (height-least (st .order) (length es))
+
+  pub packed-tree-sound : InLimits st → (away : List ℕ) → Once (st .nodes) (away ++ slotsOf (indexWith (packedTree st i es) us)) us → Ascending us
+      → Sound st away (indexWith (packedTree st i es) us)
+  packed-tree-sound lim away once up =
+      let o : ℕ = st .order in
       let h : ℕ = heightFor o (length es) in
-      let k : ℕ = length (slotsOf (packedIndex st es)) in
-      let some : 0 < o = omega (arith, lim .wide) in
       record {
         settings = lim;
-        rootSlot = packed-slot o h 0 1 es;
-        once = subst (λ (used : List ℕ). Once (given .nodes) used (upFrom k (given .nodes - k))) (sym (packed-preorder o h 0 es)) (once-up (given .nodes) k enough);
+        rootSlot = packed-slot o h (st .root) i es;
+        once = once;
         shallow = omega (arith, height-most o (length es));
-        rooted = packed-rooted st some h 0 1 es packed-fits (height-least o (length es));
-        whole = packed-items st some h 0 1 es;
-        sorted = subst Sorted (sym (packed-entries o h 0 1 es packed-fits)) (over-sorted v);
-        fit = subst (All Fits) (sym (packed-entries o h 0 1 es packed-fits)) (over-fit v);
-        ascending = run-up k (given .nodes - k);
+        rooted = packed-tree-rooted;
+        whole = packed-tree-whole;
+        sorted = subst Sorted (sym (is-packed-tree .same)) (over-sorted v);
+        fit = subst (All Fits) (sym (is-packed-tree .same)) (over-fit v);
+        ascending = up;
       }
 
--- A NEW INDEX
+-- A NEW TREE
 
-module _ (given : PoolSettings) where
-  empty : {A : Type 0} (l : List A) → length l ≡ 0 → l ≡ []
-  empty [] e = refl
-  empty (x ∷ l) e = absurd (omega arith)
+-- a tree that is one empty leaf
+leaf-new : (s : ℕ) (t : Tree 0) (us : List ℕ) → t .slot ≡ s → t .items ≡ []
+    → _≡_ {A = Index} (record { height = zero; root = t; unused = us }) (indexWith (bareLeaf s) us)
+leaf-new s t us p q = λ j. record { height = zero; root = record { slot = p j; items = q j }; unused = us }
 
-  leaf-new : (t : Tree 0) (us : List ℕ) → Alone (handed given) (record { height = zero; root = t; unused = us }) → len t ≡ 0
-      → _≡_ {A = Index} (record { height = zero; root = t; unused = us }) (newIndex (given .nodes))
-  unfolding rootFor
-  leaf-new t us s e =
-      let n : ℕ = given .nodes in
-      let many : 1 ≤ n = omega (arith, s .settings .many) in
-      let slot : t .slot ≡ 0 = s .rootSlot in
-      let bare : t .items ≡ [] = empty (t .items) e in
-      same slot bare
-      (ascending-same (s .ascending) (run-up 1 (n - 1)) (λ z.
-      omega (arith, s .once z, once-up n 1 many z, ap (λ (k : ℕ). times z (k ∷ slotsIn zero (t .items))) slot, ap (λ (l : List Entry). times z (slotsIn zero l)) bare)))
-    where
-      same : t .slot ≡ 0 → t .items ≡ [] → us ≡ upFrom 1 (given .nodes - 1)
-          → _≡_ {A = Index} (record { height = zero; root = t; unused = us }) (newIndex (given .nodes))
-      same p q r = λ j. record { height = zero; root = record { slot = p j; items = q j }; unused = r j }
+tree-new : (s h : ℕ) (t : Tree h) (us : List ℕ) → t .slot ≡ s → h ≡ 0 → len t ≡ 0
+    → _≡_ {A = Index} (record { height = h; root = t; unused = us }) (indexWith (bareLeaf s) us)
+tree-new s zero t us slot low e = leaf-new s t us slot (empty (t .items) e)
+  where
+    empty : {A : Type 0} (l : List A) → length l ≡ 0 → l ≡ []
+    empty [] e = refl
+    empty (x ∷ l) e = absurd (omega arith)
+tree-new s (suc h) t us slot low e = absurd (omega arith)
 
-  tree-new : (h : ℕ) (t : Tree h) (us : List ℕ) → Alone (handed given) (record { height = h; root = t; unused = us }) → h ≡ 0 → len t ≡ 0
-      → _≡_ {A = Index} (record { height = h; root = t; unused = us }) (newIndex (given .nodes))
-  tree-new zero t us s low e = leaf-new t us s e
-  tree-new (suc h) t us s low e = absurd (omega arith)
-
--- a sound one that is one empty leaf is what opening makes
-pub new-is : NewIs
-new-is given y s e =
+-- it is in the root's slot, whatever is in use elsewhere
+pub new-leaf : (st : Settings) {away : List ℕ} (y : Index) → Sound st away y → isNew y ≡ true → y ≡ indexWith (bareLeaf (st .root)) (y .unused)
+new-leaf st y s e =
     let low : eqb (y .height) 0 ≡ true = both-left (eqb (y .height) 0) (eqb (len (y .root)) 0) e in
     let bare : eqb (len (y .root)) 0 ≡ true = both-right (eqb (y .height) 0) (eqb (len (y .root)) 0) e in
-    tree-new given (y .height) (y .root) (y .unused) s (eqb-true (y .height) 0 low) (eqb-true (len (y .root)) 0 bare)
-
-pub new-is-new : NewIsNew
-new-is-new n = refl
+    tree-new (st .root) (y .height) (y .root) (y .unused) (s .rootSlot) (eqb-true (y .height) 0 low) (eqb-true (len (y .root)) 0 bare)

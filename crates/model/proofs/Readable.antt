@@ -139,7 +139,7 @@ module _ (st : Settings) (lim : InLimits st) where
       (siblings h (frames-readable h) (i + 1) (n .items) p)
 
 pub frames-read : FramesRead
-frames-read st x s =
+frames-read st elsewhere x s =
     all-map (λ f g. read-written f (g .0) (g .1))
     (frames-readable st (s .settings) (x .height) 0 (x .root) (root-few st (x .height) (x .root) (s .rooted))
     (record {

@@ -40,7 +40,7 @@ module _ (st : Settings) where
   separated (suc h) n w s = (last-greatest (separator-ends st (suc h) n w) s, row-separated h (separated h) (w .1) s)
 
 pub sound-separators : SoundSeparators
-sound-separators st x s = row-separated st (x .height) (separated st (x .height)) (s .whole) (s .sorted)
+sound-separators st elsewhere x s = row-separated st (x .height) (separated st (x .height)) (s .whole) (s .sorted)
 
 pub shared-separators : SharedSeparators
 shared-separators st h before c after unused lim over b w g s =

@@ -10,6 +10,7 @@ use lib.ListN.{length, take}
 use Rattle.model.specs.declared.Entry.{Entry}
 use Rattle.model.specs.declared.Reference.{Reference}
 use Rattle.model.specs.declared.Settings.{Settings}
+use Rattle.model.specs.declared.PoolSettings.{PoolSettings}
 use Rattle.model.specs.Sound.{handed}
 use Rattle.model.specs.declared.Totals.{Totals}
 use Rattle.model.specs.declared.Operation.the-variants as Op
@@ -22,16 +23,18 @@ use Rattle.model.specs.declared.Direction.the-variants.{Up, Down}
 use Rattle.model.specs.declared.Sift.{Sift}
 use Rattle.model.specs.declared.Sift.the-variants.{All, SizeAtLeast}
 use Rattle.model.specs.Lists.{concat, upFrom}
-use Rattle.model.specs.Tree.{Tree, Index, depth, entriesOf, slotsOf, totalsOf, newIndex}
+use Rattle.model.specs.Tree.{Tree, Index, depth, slotsOf, totalsOf}
 use Rattle.model.specs.Plain.{entryFor}
 use Rattle.model.specs.Share.{shareOut}
 use Rattle.model.specs.Change.{Batched}
 use Rattle.model.specs.Answer.{Answer, refused, done}
 use Rattle.model.specs.Look.{Listing, requestFor, scan}
 use Rattle.model.specs.Refuse.{Call, answer, indexAfter, get}
+use Rattle.model.specs.Forest.{Forest, treeOf, replant, newForest, refusalAt}
+use Rattle.model.specs.TwoTrees.{Turn, runForest}
+use Rattle.model.specs.PackForest.{packedForest, packedFrom, packForestRefusal}
 use Rattle.model.specs.Frame.{Frame, leaf, interior, framesOf, lineOf}
 use Rattle.model.specs.ReadFrame.{readLine}
-use Rattle.model.specs.Pack.{packedIndex, packRefusal}
 use Rattle.model.specs.LiveSizes.{clear, scanByAll}
 
 pub record Case : Type 1 where
@@ -54,12 +57,20 @@ abbrev pub text : String.String → List ℕ
 text String.[] = []
 text (String._∷_ c s) = code c ∷ text s
 
+-- a pool of so many nodes, both of whose trees have this order and minimum; and what its first tree is handed
+abbrev pub both : ℕ → ℕ → ℕ → PoolSettings
+both nodes order minimum = record { nodes = nodes; first = record { order = order; minimum = minimum }; second = record { order = order; minimum = minimum } }
+
 abbrev pub desk : Settings
-desk = handed (record { nodes = 16; order = 4; minimum = 2 })
+desk = handed (both 16 4 2) 0
 
 -- the same with N = 8
 abbrev pub eight : Settings
-eight = handed (record { nodes = 8; order = 4; minimum = 2 })
+eight = handed (both 8 4 2) 0
+
+-- the first tree of a new pool
+abbrev pub new : ℕ → Index
+new n = treeOf 0 (newForest n)
 
 -- key k has place 256 + k and size 16, as in the program's input
 abbrev pub ref : ℕ → Reference
@@ -131,7 +142,7 @@ abbrev pub ofSizeByAll : ℕ → Direction → Index → ℕ
 ofSizeByAll s d x = scanByAll (requestFor Unbounded Unbounded d (SizeAtLeast s)) 9 x .opened
 
 abbrev pub P : Index
-P = after desk (set (1 ∷ 2 ∷ 3 ∷ 4 ∷ []) ∷ set (5 ∷ []) ∷ []) (newIndex 16)
+P = after desk (set (1 ∷ 2 ∷ 3 ∷ 4 ∷ []) ∷ set (5 ∷ []) ∷ []) (new 16)
 
 -- case 3's
 abbrev pub P3 : Index
@@ -175,7 +186,7 @@ childSlots n = map (λ c. c .slot) (n .items)
 
 abbrev pub cases : List Case
 cases =
-    case (List (List ℕ)) (lines (newIndex 16)) (text "01" ∷ [])
+    case (List (List ℕ)) (lines (new 16)) (text "01" ∷ [])
     ∷ case Shape (shape P) (below ((1 ∷ 2 ∷ 3 ∷ []) ∷ (4 ∷ 5 ∷ []) ∷ []))
     ∷ case Shape (shape P3) (below ((1 ∷ 2 ∷ 3 ∷ 4 ∷ []) ∷ (5 ∷ 6 ∷ 7 ∷ 8 ∷ []) ∷ []))
     ∷ case Shape (shape P4) (below ((1 ∷ 2 ∷ 3 ∷ 4 ∷ []) ∷ (5 ∷ 6 ∷ 7 ∷ []) ∷ (8 ∷ 9 ∷ []) ∷ []))
@@ -183,13 +194,13 @@ cases =
     ∷ case Shape (shape (after desk (drop (5 ∷ 6 ∷ 7 ∷ []) ∷ []) P3)) (below ((1 ∷ 2 ∷ 3 ∷ []) ∷ (4 ∷ 8 ∷ []) ∷ []))
     ∷ case (List (List ℕ)) (map childSlots (shareOut desk (wide 1 (3 ∷ 4 ∷ 5 ∷ []) ∷ []) (wide 2 (6 ∷ 7 ∷ 8 ∷ 9 ∷ 10 ∷ [])) [] [] .rest))
     ((3 ∷ 4 ∷ 5 ∷ 6 ∷ []) ∷ (7 ∷ 8 ∷ 9 ∷ 10 ∷ []) ∷ [])
-    ∷ case (List (List ℕ)) (told (answer eight (set (1 ∷ [])) (newIndex 8)) ∷ told (answer eight (set (1 ∷ 2 ∷ [])) (newIndex 8)) ∷ [])
+    ∷ case (List (List ℕ)) (told (answer eight (set (1 ∷ [])) (new 8)) ∷ told (answer eight (set (1 ∷ 2 ∷ [])) (new 8)) ∷ [])
     ((1 ∷ 0 ∷ 0 ∷ 0 ∷ []) ∷ (7 ∷ []) ∷ [])
-    ∷ case (List (List ℕ)) (told (answer desk (set (1 ∷ 2 ∷ 3 ∷ 4 ∷ [])) (newIndex 16)) ∷ told (answer desk (set (1 ∷ 2 ∷ 3 ∷ 4 ∷ 5 ∷ [])) (newIndex 16)) ∷ [])
+    ∷ case (List (List ℕ)) (told (answer desk (set (1 ∷ 2 ∷ 3 ∷ 4 ∷ [])) (new 16)) ∷ told (answer desk (set (1 ∷ 2 ∷ 3 ∷ 4 ∷ 5 ∷ [])) (new 16)) ∷ [])
     ((4 ∷ 0 ∷ 0 ∷ 0 ∷ []) ∷ (3 ∷ []) ∷ [])
     ∷ case (Answer Listing × List ℕ)
-    (let a = answer desk (record { operation = Op.SetEach; places = 257 ∷ 258 ∷ []; sizes = 16 ∷ 16 ∷ []; keys = 7 ∷ 7 ∷ [] }) (newIndex 16) in
-    (get (7 ∷ []) 9 (indexAfter (newIndex 16) a), told a))
+    (let a = answer desk (record { operation = Op.SetEach; places = 257 ∷ 258 ∷ []; sizes = 16 ∷ 16 ∷ []; keys = 7 ∷ 7 ∷ [] }) (new 16) in
+    (get (7 ∷ []) 9 (indexAfter (new 16) a), told a))
     (listed (entryFor 7 (ref 2) ∷ []), 1 ∷ 1 ∷ 0 ∷ 0 ∷ [])
     ∷ case (List Seen) (between Up (Excluded 3) (Included 5) 9 P ∷ between Down (Excluded 3) (Included 5) 9 P ∷ [])
     (record { keys = 4 ∷ 5 ∷ []; opened = 2; more = false } ∷ record { keys = 5 ∷ 4 ∷ []; opened = 2; more = false } ∷ [])
@@ -205,7 +216,7 @@ cases =
 abbrev pub program : List Case
 program =
     case (List (List ℕ))
-    (told (answer desk (set (1 ∷ 2 ∷ 3 ∷ 4 ∷ [])) (newIndex 16)) ∷ told (answer desk (set (5 ∷ [])) (after desk (set (1 ∷ 2 ∷ 3 ∷ 4 ∷ []) ∷ []) (newIndex 16))) ∷ [])
+    (told (answer desk (set (1 ∷ 2 ∷ 3 ∷ 4 ∷ [])) (new 16)) ∷ told (answer desk (set (5 ∷ [])) (after desk (set (1 ∷ 2 ∷ 3 ∷ 4 ∷ []) ∷ []) (new 16))) ∷ [])
     ((4 ∷ 0 ∷ 0 ∷ 0 ∷ []) ∷ (1 ∷ 0 ∷ 0 ∷ 0 ∷ []) ∷ [])
     ∷ case (List (List ℕ)) (lines P)
     (text "000000000000000003000000010000000300000000000000000000003000000000000000050000000200000002000000000000000000000020"
@@ -220,18 +231,14 @@ program =
 
 -- order 7 and minimum 3, as some of them want
 abbrev pub broad : Settings
-broad = handed (record { nodes = 16; order = 7; minimum = 3 })
+broad = handed (both 16 7 3) 0
 
 abbrev pub fiveOfEight : Index
-fiveOfEight = after eight (set (1 ∷ []) ∷ set (2 ∷ []) ∷ set (3 ∷ []) ∷ set (4 ∷ []) ∷ set (5 ∷ []) ∷ []) (newIndex 8)
+fiveOfEight = after eight (set (1 ∷ []) ∷ set (2 ∷ []) ∷ set (3 ∷ []) ∷ set (4 ∷ []) ∷ set (5 ∷ []) ∷ []) (new 8)
 
 -- P with size 5 under the keys of its first leaf
 abbrev pub light : Index
 light = after desk (record { operation = Op.SetEach; places = 257 ∷ 258 ∷ 259 ∷ []; sizes = 5 ∷ 5 ∷ 5 ∷ []; keys = 1 ∷ 2 ∷ 3 ∷ [] } ∷ []) P
-
--- a pool of so many nodes, and with another minimum
-abbrev pub tight : ℕ → ℕ → Settings
-tight nodes minimum = handed (record { nodes = nodes; order = 4; minimum = minimum })
 
 -- the slots of the root's children, of a tree that is no leaf
 abbrev pub childSlotsOf : Index → List ℕ
@@ -241,13 +248,28 @@ childSlotsOf x = go (x .height) (x .root)
     go zero n = []
     go (suc h) n = map (λ c. c .slot) (n .items)
 
+-- the pool of the cases, in which tree 0 is P, after some more batches
+abbrev pub pool : PoolSettings
+pool = both 16 4 2
+
+abbrev pub grown : List Turn → Forest
+grown ts = runForest pool ts (replant 0 P (newForest 16))
+
+-- P's batches on the second tree
+abbrev pub sameOnSecond : List Turn
+sameOnSecond = record { tree = 1; call = set (1 ∷ 2 ∷ 3 ∷ 4 ∷ []) } ∷ record { tree = 1; call = set (5 ∷ []) } ∷ []
+
+-- P's keys one at a time on tree i
+abbrev pub slowly : ℕ → List Turn
+slowly i = map (λ k. record { tree = i; call = set (k ∷ []) }) (1 ∷ 2 ∷ 3 ∷ 4 ∷ 5 ∷ [])
+
 abbrev pub readings : List Case
 readings =
     -- the slots of P, and of case 5's tree, whose other slots are unused again
-    case (List ℕ) (slotsOf P) (0 ∷ 1 ∷ 2 ∷ [])
-    ∷ case (List ℕ × List ℕ) (let x = after desk (drop (4 ∷ []) ∷ []) P in (slotsOf x, x .unused)) (0 ∷ [], upFrom 1 15)
+    case (List ℕ) (slotsOf P) (0 ∷ 2 ∷ 3 ∷ [])
+    ∷ case (List ℕ × List ℕ) (let x = after desk (drop (4 ∷ []) ∷ []) P in (slotsOf x, x .unused)) (0 ∷ [], upFrom 2 14)
     -- Compare whose action is Remove: on an absent key it does nothing, and refusal 7 is for it too
-    ∷ case (List (List ℕ)) (told (answer desk absentRemove (newIndex 16)) ∷ told (answer eight absentRemove fiveOfEight) ∷ [])
+    ∷ case (List (List ℕ)) (told (answer desk absentRemove (new 16)) ∷ told (answer eight absentRemove fiveOfEight) ∷ [])
     ((0 ∷ 0 ∷ 0 ∷ 1 ∷ []) ∷ (7 ∷ []) ∷ [])
     -- a dead entry is no more listed by a scan, still found by a get, and counted as dead; its size is in no sum, nor in an interior's frame
     ∷ case (List Seen × Answer Listing × Totals × List (List ℕ))
@@ -306,12 +328,33 @@ readings =
     (twoGroves ((1 ∷ 2 ∷ 3 ∷ []) ∷ (4 ∷ 5 ∷ []) ∷ (6 ∷ 7 ∷ 8 ∷ 9 ∷ []) ∷ []) ((10 ∷ 11 ∷ 12 ∷ []) ∷ (13 ∷ 14 ∷ []) ∷ []))))
     (below ((1 ∷ 2 ∷ 3 ∷ []) ∷ (4 ∷ 5 ∷ []) ∷ (6 ∷ 7 ∷ 8 ∷ 9 ∷ []) ∷ (10 ∷ []) ∷ []))
     -- P packed: the last leaf may be below the minimum
-    ∷ case Shape (shape (packedIndex desk (entriesOf P))) (below ((1 ∷ 2 ∷ 3 ∷ 4 ∷ []) ∷ (5 ∷ []) ∷ []))
+    ∷ case Shape (shape (treeOf 0 (packedFrom pool (grown [])))) (below ((1 ∷ 2 ∷ 3 ∷ 4 ∷ []) ∷ (5 ∷ []) ∷ []))
     -- seventeen entries: the first interior's leaves have the slots behind it, and then comes the second interior
-    ∷ case (List (List ℕ) × List ℕ) (let x = packedIndex desk (map (λ k. entryFor k (ref k)) (upFrom 1 17)) in (shape x .leaves, childSlotsOf x))
-    ((1 ∷ 2 ∷ 3 ∷ 4 ∷ []) ∷ (5 ∷ 6 ∷ 7 ∷ 8 ∷ []) ∷ (9 ∷ 10 ∷ 11 ∷ 12 ∷ []) ∷ (13 ∷ 14 ∷ 15 ∷ 16 ∷ []) ∷ (17 ∷ []) ∷ [], 1 ∷ 6 ∷ [])
-    -- 17 before 18 before 7, and a target that has just the nodes that are needed
+    ∷ case (List (List ℕ) × List ℕ)
+    (let x = treeOf 0 (packedForest pool (map (λ k. entryFor k (ref k)) (upFrom 1 17)) []) in (shape x .leaves, childSlotsOf x))
+    ((1 ∷ 2 ∷ 3 ∷ 4 ∷ []) ∷ (5 ∷ 6 ∷ 7 ∷ 8 ∷ []) ∷ (9 ∷ 10 ∷ 11 ∷ 12 ∷ []) ∷ (13 ∷ 14 ∷ 15 ∷ 16 ∷ []) ∷ (17 ∷ []) ∷ [], 2 ∷ 7 ∷ [])
+    -- both trees packed: the second's other nodes come behind the first's
+    ∷ case (List (List ℕ)) (let f = packedFrom pool (grown sameOnSecond) in slotsOf (treeOf 0 f) ∷ slotsOf (treeOf 1 f) ∷ [])
+    ((0 ∷ 2 ∷ 3 ∷ []) ∷ (1 ∷ 4 ∷ 5 ∷ []) ∷ [])
+    -- 17 before 18 before 7, and a target that has just the nodes that are needed, one for the second tree's leaf
     ∷ case (List ℕ)
-    (packRefusal desk (tight 2 1) P P ∷ packRefusal desk (tight 2 2) P P ∷ packRefusal desk (tight 2 2) P (newIndex 2) ∷ packRefusal desk (tight 3 2) P (newIndex 3) ∷ [])
+    (let f = grown [] in
+    packForestRefusal pool (both 3 4 1) f f ∷ packForestRefusal pool (both 3 4 2) f f
+    ∷ packForestRefusal pool (both 3 4 2) f (newForest 3) ∷ packForestRefusal pool (both 4 4 2) f (newForest 4) ∷ [])
     (17 ∷ 18 ∷ 7 ∷ 0 ∷ [])
+    -- TWO TREES: 19 stands before 3, and 3 is by the order of the tree that is named
+    ∷ case (List ℕ)
+    (let g : PoolSettings = record { nodes = 16; first = record { order = 4; minimum = 2 }; second = record { order = 7; minimum = 3 } } in
+    let five = set (1 ∷ 2 ∷ 3 ∷ 4 ∷ 5 ∷ []) in
+    refusalAt g 2 five (newForest 16) ∷ refusalAt g 0 five (newForest 16) ∷ refusalAt g 1 five (newForest 16) ∷ [])
+    (19 ∷ 3 ∷ 0 ∷ [])
+    -- a batch on one tree leaves the other's frames, and takes unused nodes of both: with N = 8 the second is refused as 7 once the first has P
+    ∷ case (List (List ℕ) × List ℕ)
+    (let f = runForest (both 8 4 2) (slowly 0) (newForest 8) in
+    (lines (treeOf 1 f), refusalAt (both 8 4 2) 1 (set (1 ∷ [])) (newForest 8) ∷ refusalAt (both 8 4 2) 1 (set (1 ∷ [])) f ∷ []))
+    (text "01" ∷ [], 0 ∷ 7 ∷ [])
+    -- slots that one tree has freed are taken by the other
+    ∷ case (List (List ℕ))
+    (let f = runForest pool (record { tree = 0; call = drop (4 ∷ []) } ∷ sameOnSecond) (grown []) in slotsOf (treeOf 0 f) ∷ slotsOf (treeOf 1 f) ∷ [])
+    ((0 ∷ []) ∷ (1 ∷ 2 ∷ 3 ∷ []) ∷ [])
     ∷ []

@@ -8,24 +8,23 @@ use Prim.Native.Nat.{ℕ, zero, suc, _*_, _^_, _≤_, _<_}
 use lib.ListN.{length, drop}
 use Rattle.model.specs.declared.Entry.{Entry}
 use Rattle.model.specs.declared.Reference.{Reference}
-use Rattle.model.specs.declared.PoolSettings.{PoolSettings}
 use Rattle.model.specs.declared.Settings.{Settings}
 use Rattle.model.specs.declared.Action.{Action}
 use Rattle.model.specs.declared.Action.the-variants as Do
 use Rattle.model.specs.declared.Operation.{Operation}
 use Rattle.model.specs.declared.Operation.the-variants as Op
 use Rattle.model.specs.Lists.{concat, times, All}
-use Rattle.model.specs.Tree.{Node, Item, Tree, Index, len, depth, entries, greatestKey, entriesOf, totalsOf, adds, sumOf, newIndex}
+use Rattle.model.specs.Tree.{Node, Item, Tree, Index, len, depth, entries, greatestKey, entriesOf, totalsOf, adds, sumOf}
 use Rattle.model.specs.Plain.{Task, plainList, plainCounts, noCounts}
 use Rattle.model.specs.Share.{Place, shareOut}
 use Rattle.model.specs.Change.{Run, walk, change, changeRoot, Batched, batch}
 use Rattle.model.specs.Answer.{done}
 use Rattle.model.specs.declared.Request.{Request}
 use Rattle.model.specs.Look.{listing, found, getAll, dueIn, openings, scan}
-use Rattle.model.specs.Refuse.{Call, tasksOf, isRemove, refusal, answer, indexAfter}
+use Rattle.model.specs.Refuse.{Call, tasksOf, isRemove, refusal}
 use Rattle.model.specs.Frame.{Frame, keysOf, framesOf, lineOf, entriesRefusal}
 use Rattle.model.specs.ReadFrame.{readLine}
-use Rattle.model.specs.Sound.{handed, InLimits, Whole, Sorted, Alone, FrameFits}
+use Rattle.model.specs.Sound.{InLimits, Whole, Sorted, Sound, FrameFits}
 use Rattle.model.specs.Contracts.{flat, joined, OverFull}
 
 -- WHAT A CALL LENDS are numbers of their types: keys and places of 8 bytes, sizes of 4
@@ -52,19 +51,21 @@ pub record Lent (c : Call) : Type 0 where
 
 -- ONE BATCH that is not refused does to the tree what its keys, one at a time, do to the plain list; its counts are the plain list's; no task
 -- is left; and the index is sound again: no slot is lost or doubled, so that refusal 7's formula suffices, and the depth is at most 8
-pub record Batches (st : Settings) (c : Call) (x : Index) (b : Batched) : Type 0 where
+pub record Batches (st : Settings) (elsewhere : List ℕ) (c : Call) (x : Index) (b : Batched) : Type 0 where
   pub list : entriesOf (b .index) ≡ plainList (tasksOf c) (entriesOf x)
   pub counts : b .counts ≡ plainCounts (tasksOf c) (entriesOf x) noCounts
   pub left : b .tasks ≡ []
-  pub sound : Alone st (b .index)
+  pub sound : Sound st elsewhere (b .index)
 
 abbrev pub OneBatch : Type 0
-OneBatch = (st : Settings) (c : Call) (x : Index) → Alone st x → Lent c → refusal st c x ≡ 0 → Batches st c x (batch st (tasksOf c) x)
+OneBatch =
+    (st : Settings) (elsewhere : List ℕ) (c : Call) (x : Index) → Sound st elsewhere x → Lent c → refusal st c x ≡ 0
+    → Batches st elsewhere c x (batch st (tasksOf c) x)
 
 -- a Remove takes no node: each slot that was unused still is, and the tree grows no deeper
 abbrev pub RemoveTakesNone : Type 0
 RemoveTakesNone =
-    (st : Settings) (c : Call) (x : Index) → Alone st x → Lent c → refusal st c x ≡ 0 → isRemove (c .operation) ≡ true
+    (st : Settings) (elsewhere : List ℕ) (c : Call) (x : Index) → Sound st elsewhere x → Lent c → refusal st c x ≡ 0 → isRemove (c .operation) ≡ true
     → ((s : ℕ) → times s (x .unused) ≤ times s (batch st (tasksOf c) x .index .unused)) × (depth (batch st (tasksOf c) x .index) ≤ depth x)
 
 -- NO INTERIOR PASSES 2 × ORDER while a batch runs, since a batch holds at most order keys
@@ -81,7 +82,7 @@ Uncrowded st (suc h) n ts run =
 -- so the root and all below it, after any number of the root's calls
 abbrev pub NoInteriorPasses : Type 0
 NoInteriorPasses =
-    (st : Settings) (c : Call) (x : Index) → Alone st x → Lent c → refusal st c x ≡ 0 → (calls : ℕ)
+    (st : Settings) (elsewhere : List ℕ) (c : Call) (x : Index) → Sound st elsewhere x → Lent c → refusal st c x ≡ 0 → (calls : ℕ)
     → let b = changeRoot st calls x (tasksOf c) noCounts in
     Uncrowded st (b .index .height) (b .index .root) (b .tasks) (record { unused = b .index .unused; counts = b .counts })
 
@@ -123,23 +124,14 @@ SharedSeparators =
 
 -- and of each node below the root of a sound index, so before and after every batch
 abbrev pub SoundSeparators : Type 0
-SoundSeparators = (st : Settings) (x : Index) → Alone st x → All (Separated (x .height)) (x .root .items)
+SoundSeparators = (st : Settings) (elsewhere : List ℕ) (x : Index) → Sound st elsewhere x → All (Separated (x .height)) (x .root .items)
 
--- ANY SEQUENCE OF BATCHES from a new index
+-- ANY SEQUENCE OF BATCHES: what holds after it stands in specs/TwoTrees
 
--- the index after some calls, of which a refused one does nothing
-abbrev pub runAll : Settings → List Call → Index → Index
-runAll st [] x = x
-runAll st (c ∷ cs) x = runAll st cs (indexAfter x (answer st c x))
-
--- the plain list after the accepted ones of these calls, their keys taken one at a time
+-- the plain list after a batch that is answered with a number: where it is 0 the batch is done, its keys taken one at a time, and else it does nothing
 abbrev pub plainAfter : ℕ → List Task → List Entry → List Entry
 plainAfter zero ts es = plainList ts es
 plainAfter (suc n) ts es = es
-
-abbrev pub plainAll : Settings → List Call → Index → List Entry → List Entry
-plainAll st [] x es = es
-plainAll st (c ∷ cs) x es = plainAll st cs (indexAfter x (answer st c x)) (plainAfter (refusal st c x) (tasksOf c) es)
 
 -- the tree holds exactly the entries of a list, and lookups, scan lists and totals answer from that list
 pub record AnswersFrom (es : List Entry) (x : Index) : Type 0 where
@@ -147,12 +139,6 @@ pub record AnswersFrom (es : List Entry) (x : Index) : Type 0 where
   pub gets : (ks : List ℕ) (room : ℕ) → getAll ks room x ≡ listing room (found ks es)
   pub scans : (q : Request) (room : ℕ) → scan q room x .listed ≡ listing room (dueIn q es)
   pub totals : totalsOf x ≡ sumOf (map adds es)
-
-abbrev pub Demand3 : Type 0
-Demand3 =
-    (given : PoolSettings) (cs : List Call) → InLimits (handed given) → All Lent cs
-    → let st = handed given in
-    Alone st (runAll st cs (newIndex (st .nodes))) × AnswersFrom (plainAll st cs (newIndex (st .nodes)) []) (runAll st cs (newIndex (st .nodes)))
 
 -- TWO NEIGHBOURING BATCHES that share no key, both accepted in either order, may change places: the counts are the same, and so is the answer
 -- to every get, scan list and totals call straight after the pair
@@ -167,13 +153,14 @@ pub record ChangePlaces (st : Settings) (c d : Call) (x : Index) : Type 0 where
 
 abbrev pub Swap : Type 0
 Swap =
-    (st : Settings) (c d : Call) (x : Index) → Alone st x → Lent c → Lent d → Apart c d
+    (st : Settings) (elsewhere : List ℕ) (c d : Call) (x : Index) → Sound st elsewhere x → Lent c → Lent d → Apart c d
     → refusal st c x ≡ 0 → refusal st d (batch st (tasksOf c) x .index) ≡ 0 → refusal st d x ≡ 0 → refusal st c (batch st (tasksOf d) x .index) ≡ 0
     → ChangePlaces st c d x
 
 -- THE NODES THAT A SCAN OPENS hold exactly what it lists
 abbrev pub OpeningsList : Type 0
-OpeningsList = (st : Settings) (q : Request) (x : Index) → Alone st x → concat (openings q (x .height) (x .root)) ≡ dueIn q (entriesOf x)
+OpeningsList =
+    (st : Settings) (elsewhere : List ℕ) (q : Request) (x : Index) → Sound st elsewhere x → concat (openings q (x .height) (x .root)) ≡ dueIn q (entriesOf x)
 
 -- WRITING AND READING A FRAME undo each other
 
@@ -185,7 +172,7 @@ WriteUndoesRead = (s : List ℕ) (f : Frame) → readLine s ≡ done f → lineO
 
 -- every frame of a sound index can be read back
 abbrev pub FramesRead : Type 0
-FramesRead = (st : Settings) (x : Index) → Alone st x → All (λ f. readLine (lineOf f) ≡ done f) (framesOf x)
+FramesRead = (st : Settings) (elsewhere : List ℕ) (x : Index) → Sound st elsewhere x → All (λ f. readLine (lineOf f) ≡ done f) (framesOf x)
 
 -- ALL OF THEM
 pub record Demands : Type 1 where
@@ -195,7 +182,6 @@ pub record Demands : Type 1 where
   pub overFullChild : OverFullChild
   pub sharedSeparators : SharedSeparators
   pub soundSeparators : SoundSeparators
-  pub demand3 : Demand3
   pub swap : Swap
   pub openingsList : OpeningsList
   pub readUndoesWrite : ReadUndoesWrite

@@ -1,5 +1,5 @@
--- Document 01 as definitions, one idea a file. `Sound`, `Demands`, `Packing` and `LiveSizes` say what is proved of them, in proofs/;
--- `Contracts` has the words of the inner crates' contracts.
+-- Document 01 as definitions, one idea a file. `Sound`, `Demands`, `Packing`, `TwoTrees`, `PackForest` and `LiveSizes` say what is proved of them, in
+-- proofs/; `Contracts` has the words of the inner crates' contracts.
 pub mod Lists
 pub mod Tree
 pub mod Plain
@@ -15,5 +15,8 @@ pub mod Sound
 pub mod Contracts
 pub mod Demands
 pub mod Packing
+pub mod Forest
+pub mod TwoTrees
+pub mod PackForest
 pub mod LiveSizes
 pub mod Cases

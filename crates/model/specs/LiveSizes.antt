@@ -12,7 +12,7 @@ use Rattle.model.specs.Lists.{concat, keep}
 use Rattle.model.specs.Tree.{Item, Index, entries, greatestKey, isLive}
 use Rattle.model.specs.Look.{listing, least, starts, Choice, reached, openingsBy, countTo, Scanned, scan}
 use Rattle.model.specs.Refuse.{Call, call}
-use Rattle.model.specs.Sound.{Alone}
+use Rattle.model.specs.Sound.{Sound}
 
 -- THE SUM OF BEFORE: the sizes of all entries, dead ones too
 abbrev pub allSizes : List Entry → ℕ
@@ -44,7 +44,8 @@ module _ (q : Request) where
 
 -- SCAN LISTS STAY
 abbrev pub ListsStay : Type 0
-ListsStay = (st : Settings) (q : Request) (room : ℕ) (x : Index) → Alone st x → scan q room x .listed ≡ scanByAll q room x .listed
+ListsStay =
+    (st : Settings) (elsewhere : List ℕ) (q : Request) (room : ℕ) (x : Index) → Sound st elsewhere x → scan q room x .listed ≡ scanByAll q room x .listed
 
 -- NODES OPENED MAY FALL and never rise: of every tree, sound or not
 abbrev pub OpensNoMore : Type 0

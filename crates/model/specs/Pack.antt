@@ -1,14 +1,12 @@
 -- Packing: some entries as a tree whose levels are full, in slots that go out in preorder; and the call that copies an index so. Assumes nothing.
 use mathlib.Core.Bool.{Bool, _&&_, not, cond}
 use mathlib.Core.List.{List, [], _∷_}
-use Prim.Native.Nat.{ℕ, zero, suc, _+_, _-_, _*_}
-use lib.ListN.{length, take, drop}
-use lib.Dec.{leb, ltb, eqb}
+use Prim.Native.Nat.{ℕ, zero, suc, _+_, _*_}
+use lib.ListN.{take, drop}
+use lib.Dec.{leb, eqb}
 use Rattle.model.specs.declared.Entry.{Entry}
 use Rattle.model.specs.declared.Settings.{Settings}
-use Rattle.model.specs.Lists.{upFrom}
-use Rattle.model.specs.Tree.{Tree, Index, len, entriesOf, slotsOf}
-use Rattle.model.specs.Answer.{Answer, unless}
+use Rattle.model.specs.Tree.{Tree, Index, len}
 use Rattle.model.specs.Frame.{nodesIn}
 
 -- HEIGHT
@@ -48,14 +46,6 @@ abbrev pub packed : ℕ → (h : ℕ) → ℕ → ℕ → List Entry → Tree h
 packed o zero s i es = record { slot = s; items = es }
 packed o (suc h) s i es = record { slot = s; items = inPreorder h (packed o h) i (pieces o (capacity o h) es) }
 
--- the index of these entries, in a pool of its own
-abbrev pub packedIndex : Settings → List Entry → Index
-packedIndex st es =
-    let h = heightFor (st .order) (length es) in
-    let t = packed (st .order) h (st .root) 1 es in
-    let k = nodesIn (suc h) t in
-    record { height = h; root = t; unused = upFrom k (st .nodes - k) }
-
 -- THE CALL
 
 -- the orders or the minimums of two pools differ
@@ -65,14 +55,3 @@ differ st su = not (eqb (st .order) (su .order) && eqb (st .minimum) (su .minimu
 -- a new index is one empty leaf
 abbrev pub isNew : Index → Bool
 isNew y = eqb (y .height) 0 && eqb (len (y .root)) 0
-
--- The first of 17, 18 and 7 that applies to a source x and a target y, of the settings st and su; 0 where none does.
-abbrev pub packRefusal : Settings → Settings → Index → Index → ℕ
-packRefusal st su x y =
-    cond (differ st su) 17
-    (cond (not (isNew y)) 18
-    (cond (ltb (su .nodes) (length (slotsOf (packedIndex su (entriesOf x))))) 7 0))
-
--- what becomes of the target
-abbrev pub pack : Settings → Settings → Index → Index → Answer Index
-pack st su x y = unless (packRefusal st su x y) (packedIndex su (entriesOf x))

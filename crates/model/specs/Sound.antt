@@ -2,27 +2,38 @@
 -- Assumes nothing.
 use mathlib.Core.Path.{_≡_}
 use mathlib.Core.Bool.{cond}
-use mathlib.Core.List.{List, [], _++_}
-use Prim.Native.Nat.{ℕ, zero, suc, _+_, _*_, _/_, _^_, _≤_, _<_}
+use mathlib.Core.List.{List, _++_}
+use Prim.Native.Nat.{ℕ, zero, suc, _+_, _*_, _/_, _^_, _≤_, _<_, max}
 use lib.Dec.{ltb}
 use Rattle.model.specs.declared.Entry.{Entry}
+use Rattle.model.specs.declared.Limits.{Limits}
 use Rattle.model.specs.declared.PoolSettings.{PoolSettings}
 use Rattle.model.specs.declared.Settings.{Settings}
 use Rattle.model.specs.Lists.{All, Ordered, times}
 use Rattle.model.specs.Frame.{Branch, Frame, leaf, interior}
 use Rattle.model.specs.Tree.{Node, Item, Tree, Index, len, depth, entriesOf, slotsOf}
 
--- In a pool that was opened with some settings, a slot has room for twice order rows, and the root is in slot 0. Both are shut: what is used of them
--- stands in proofs/Layers.
+-- A POOL HAS TWO TREES, 0 and 1. A call refuses any other number before it looks, and so whatever is said here of 1 may be said of those above it too.
+
+-- the limits of tree i
+abbrev pub limitsFor : PoolSettings → ℕ → Limits
+limitsFor given zero = given .first
+limitsFor given (suc i) = given .second
+
+-- its root never moves
+abbrev pub rootFor : ℕ → ℕ
+rootFor zero = 0
+rootFor (suc i) = 1
+
+-- a freed slot serves either tree, and so each has room for twice as many rows as the larger order. This is shut: what is used of it stands in
+-- proofs/Layers.
 unfoldable pub rowsFor : PoolSettings → ℕ
-rowsFor given = 2 * given .order
+rowsFor given = 2 * max (given .first .order) (given .second .order)
 
-unfoldable pub rootFor : PoolSettings → ℕ
-rootFor given = 0
-
--- what every layer is handed there
-abbrev pub handed : PoolSettings → Settings
-handed given = record { nodes = given .nodes; order = given .order; minimum = given .minimum; rows = rowsFor given; root = rootFor given }
+-- what every layer is handed of tree i
+abbrev pub handed : PoolSettings → ℕ → Settings
+handed given i =
+    record { nodes = given .nodes; order = limitsFor given i .order; minimum = limitsFor given i .minimum; rows = rowsFor given; root = rootFor i }
 
 -- N is 8 to 16,384; order 4 to 32; minimum 1 up to (order + 1) / 2 rounded down
 pub record InLimits (st : Settings) : Type 0 where
@@ -32,6 +43,10 @@ pub record InLimits (st : Settings) : Type 0 where
   pub narrow : st .order ≤ 32
   pub some : 1 ≤ st .minimum
   pub least : st .minimum ≤ (st .order + 1) / 2
+
+-- of both trees
+abbrev pub PoolLimits : PoolSettings → Type 0
+PoolLimits given = InLimits (handed given 0) × InLimits (handed given 1)
 
 -- NODES
 
@@ -95,7 +110,3 @@ pub record Sound (st : Settings) (elsewhere : List ℕ) (x : Index) : Type 0 whe
   pub sorted : Sorted (entriesOf x)
   pub fit : All Fits (entriesOf x)
   pub ascending : Ascending (x .unused)
-
--- .. and in a pool of its own
-abbrev pub Alone : Settings → Index → Type 0
-Alone st x = Sound st [] x

@@ -1,12 +1,12 @@
 -- Nodes of any level, with their entries, separators, totals and slots; and the index, a tree with the unused slots. Assumes nothing.
 use mathlib.Core.Bool.{Bool, not, cond}
 use mathlib.Core.List.{List, [], _∷_, map}
-use Prim.Native.Nat.{ℕ, zero, suc, _+_, _-_}
+use Prim.Native.Nat.{ℕ, zero, suc, _+_}
 use lib.ListN.{length}
 use lib.Dec.{ltb, eqb}
 use Rattle.model.specs.declared.Entry.{Entry}
 use Rattle.model.specs.declared.Totals.{Totals}
-use Rattle.model.specs.Lists.{concat, upFrom}
+use Rattle.model.specs.Lists.{concat}
 
 -- NODES
 
@@ -115,7 +115,3 @@ slotsOf x = slots (suc (x .height)) (x .root)
 
 abbrev pub totalsOf : Index → Totals
 totalsOf x = total (suc (x .height)) (x .root)
-
--- a new index of n nodes is one empty leaf, in slot 0
-abbrev pub newIndex : ℕ → Index
-newIndex n = record { height = zero; root = record { slot = 0; items = [] }; unused = upFrom 1 (n - 1) }

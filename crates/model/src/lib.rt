@@ -2,14 +2,20 @@
 //
 // What they mean stands in specs/: a reader with document 01 in hand finds each of its rules there, one file to an idea.
 
-// The settings that a pool is opened with: how many nodes it has, how many entries a node may hold, and below how many it is joined.
-pub struct PoolSettings {
-    pub nodes: usize,
+// The limits of a tree: how many entries a node may hold, and below how many it is joined.
+pub struct Limits {
     pub order: usize,
     pub minimum: usize,
 }
 
-// What every layer is handed: the settings, how many rows a slot has room for, and the slot of the root.
+// The settings that a pool is opened with: how many nodes it has, and the limits of each of its two trees.
+pub struct PoolSettings {
+    pub nodes: usize,
+    pub first: Limits,
+    pub second: Limits,
+}
+
+// What every layer is handed of a tree: the nodes of its pool, its limits, how many rows a slot has room for, and the slot of its root.
 pub struct Settings {
     pub nodes: usize,
     pub order: usize,

@@ -2,7 +2,7 @@
 //
 // They stand apart from the model because a definition that is changed is then proved without them.
 ghost use mathlib.Core.Path.{_≡_};
-ghost use Prim.Native.Nat.{_≤_, min};
+ghost use Prim.Native.Nat.{min, max};
 ghost use Rattle.model.specs.Sound as Sound;
 ghost use Rattle.model.specs.Tree.{isMark, noTotals};
 ghost use Rattle.model.specs.Plain.{noCounts};
@@ -11,24 +11,57 @@ ghost use Rattle.model.specs.Share as share;
 ghost use Rattle.model.specs.Refuse.{isRemove};
 use model::Bound;
 use model::Counts;
+use model::Limits;
 use model::Operation;
 use model::PoolSettings;
 use model::Settings;
 use model::Sift;
 use model::Totals;
 
-// What the layers are handed in a pool that was opened with these settings. A node may hold twice its order while a batch runs.
-pub fn handed(given: PoolSettings) -> Settings
-    requires { ⌜ given .order ≤ 32 ⌝ }
-    ensures { λ r. ⌜ r ≡ Sound.handed given ⌝ }
+// What the layers are handed of a tree, 0 or 1, in a pool that was opened with these settings.
+pub fn handed(given: PoolSettings, tree: usize) -> Settings
+    requires { ⌜ Sound.PoolLimits given ⌝ }
+    ensures { λ r. ⌜ r ≡ Sound.handed given tree ⌝ }
 {
+    let rows = rows_for(given);
+    let limits = limits_for(given, tree);
+    let root = root_for(tree);
     Settings {
         nodes: given.nodes,
-        order: given.order,
-        minimum: given.minimum,
-        rows: 2 * given.order,
-        root: 0,
+        order: limits.order,
+        minimum: limits.minimum,
+        rows,
+        root,
     }
+}
+
+fn limits_for(given: PoolSettings, tree: usize) -> Limits
+    ensures { λ r. ⌜ r ≡ Sound.limitsFor given tree ⌝ }
+{
+    if tree == 0 { given.first } else { given.second }
+}
+
+fn root_for(tree: usize) -> usize
+    ensures { λ r. ⌜ r ≡ Sound.rootFor tree ⌝ }
+{
+    if tree == 0 { 0 } else { 1 }
+}
+
+// How many rows a slot has room for. A node may hold twice its order while a batch runs, and a slot serves either tree.
+pub fn rows_for(given: PoolSettings) -> usize
+    requires { ⌜ Sound.PoolLimits given ⌝ }
+    ensures { λ r. ⌜ r ≡ Sound.rowsFor given ⌝ }
+{
+    let first = given.first;
+    let second = given.second;
+    2 * greater(first.order, second.order)
+}
+
+// The larger of two numbers.
+fn greater(a: usize, b: usize) -> usize
+    ensures { λ r. ⌜ r ≡ max a b ⌝ }
+{
+    if a < b { b } else { a }
 }
 
 pub fn no_counts() -> Counts

@@ -12,7 +12,7 @@ use Rattle.model.specs.declared.Settings.{Settings}
 use Rattle.slots_raw.specs.declared.Row.{Row}
 use Rattle.slots_raw.specs.Over.{over, part}
 use Rattle.slots_raw.specs.Slots.{blank, chunks, width, headLen, Raw, rawOf, slotOf, slots, rawAt}
-use Rattle.slots_write.specs.Puts.{putCells, putHead}
+use Rattle.slots_write.specs.Puts.{putSlotKind, putCells}
 use Rattle.slots_write.specs.Contracts.{SlotsPut}
 use Rattle.slots.specs.Nodes.{Node, unused, nodeOf, nodes, nth, rowsAt, putRows, putKind, pad, rawFor, Canon, Held, putIn, without, put2, withRows}
 use Rattle.slots.specs.Contracts.{NodesPut}
@@ -125,23 +125,23 @@ settle st W₀ W s r n h held w q g =
       header = w .header;
     }
 
--- ---- what is written: k and n are what node s has for its kind and its number of rows
+-- ---- what is written: n is the number of rows that node s has
 
--- the slots with all of slot s written
-abbrev rewritten : Settings → List ℕ → ℕ → ℕ → ℕ → List Row → List Raw
-rewritten st W s k c l = set (slots st W) s (record { kind = k; count = c; cells = l })
+-- the slots with all of slot s written but its kind
+abbrev rewritten : Settings → List ℕ → ℕ → ℕ → List Row → List Raw
+rewritten st W s c l = set (slots st W) s (record { kind = rawAt st W s .kind; count = c; cells = l })
 
-module _ (st : Settings) (W₀ W : List ℕ) (s k n : ℕ) (h : s < st .nodes) (held : Held st W₀) (ek : k ≡ nth (nodes st W₀) s .kind) (en : n ≡ length (rowsAt st W₀ s)) where
-  rows-now : (cells : List Row) (c : ℕ) (l : List Row) → SlotsPut st W₀ W (rewritten st W₀ s k c cells) → cells ≡ pad (st .rows) l → c ≡ length l
+module _ (st : Settings) (W₀ W : List ℕ) (s n : ℕ) (h : s < st .nodes) (held : Held st W₀) (en : n ≡ length (rowsAt st W₀ s)) where
+  rows-now : (cells : List Row) (c : ℕ) (l : List Row) → SlotsPut st W₀ W (rewritten st W₀ s c cells) → cells ≡ pad (st .rows) l → c ≡ length l
       → c ≤ st .rows → NodesPut st W₀ W (putRows (nodes st W₀) s l)
   unfolding putRows rawFor
   rows-now cells c l w e ec g =
-      settle st W₀ W s (record { kind = k; count = c; cells = cells }) (record { kind = nth (nodes st W₀) s .kind; rows = l }) h held w
-      (λ j. record { kind = ek j; count = ec j; cells = e j }) (omega arith)
+      settle st W₀ W s (record { kind = rawAt st W₀ s .kind; count = c; cells = cells }) (record { kind = nth (nodes st W₀) s .kind; rows = l }) h held w
+      (λ j. record { kind = kind-node st W₀ s j; count = ec j; cells = e j }) (omega arith)
 
   -- a gap is opened and filled
   pub opened-now : (i a : ℕ) (new : List Row) → i ≤ n → length new ≡ a → n + a ≤ st .rows
-      → SlotsPut st W₀ W (rewritten st W₀ s k (n + a) (opening n (rawAt st W₀ s .cells) i a new)) → NodesPut st W₀ W (putRows (nodes st W₀) s (putIn (rowsAt st W₀ s) i new))
+      → SlotsPut st W₀ W (rewritten st W₀ s (n + a) (opening n (rawAt st W₀ s .cells) i a new)) → NodesPut st W₀ W (putRows (nodes st W₀) s (putIn (rowsAt st W₀ s) i new))
   opened-now i a new hi ea g w =
       let l = rowsAt st W₀ s in
       rows-now (opening n (rawAt st W₀ s .cells) i a new) (n + a) (putIn l i new) w
@@ -150,7 +150,7 @@ module _ (st : Settings) (W₀ W : List ℕ) (s k n : ℕ) (h : s < st .nodes) (
 
   -- rows are put after the last
   pub appended-now : (a : ℕ) (new : List Row) → length new ≡ a → n + a ≤ st .rows
-      → SlotsPut st W₀ W (rewritten st W₀ s k (n + a) (over (rawAt st W₀ s .cells) n a new)) → NodesPut st W₀ W (putRows (nodes st W₀) s (rowsAt st W₀ s ++ new))
+      → SlotsPut st W₀ W (rewritten st W₀ s (n + a) (over (rawAt st W₀ s .cells) n a new)) → NodesPut st W₀ W (putRows (nodes st W₀) s (rowsAt st W₀ s ++ new))
   appended-now a new ea g w =
       let l = rowsAt st W₀ s in
       rows-now (over (rawAt st W₀ s .cells) n a new) (n + a) (l ++ new) w
@@ -159,20 +159,13 @@ module _ (st : Settings) (W₀ W : List ℕ) (s k n : ℕ) (h : s < st .nodes) (
 
   -- rows are taken out
   pub closed-now : (i a : ℕ) → i + a ≤ n
-      → SlotsPut st W₀ W (rewritten st W₀ s k (n - a) (closing n (rawAt st W₀ s .cells) i a)) → NodesPut st W₀ W (putRows (nodes st W₀) s (without (rowsAt st W₀ s) i a))
+      → SlotsPut st W₀ W (rewritten st W₀ s (n - a) (closing n (rawAt st W₀ s .cells) i a)) → NodesPut st W₀ W (putRows (nodes st W₀) s (without (rowsAt st W₀ s) i a))
   closed-now i a hi w =
       let l = rowsAt st W₀ s in
       let fits : length (rowsAt st W₀ s) ≤ st .rows = fits-node st W₀ s held in
       rows-now (closing n (rawAt st W₀ s .cells) i a) (n - a) (without l i a) w
       (ap (λ (r : List Row). closing n r i a) (cells-node st W₀ s held) ∙ closed (st .rows) i a n l en hi (omega arith))
       (omega (arith, length-without l i a (omega arith))) (omega arith)
-
-  -- the kind is set
-  pub kind-now : (k′ : ℕ) → SlotsPut st W₀ W (putHead st W₀ s k′ n) → NodesPut st W₀ W (putKind (nodes st W₀) s k′)
-  unfolding putKind rawFor
-  kind-now k′ w =
-      settle st W₀ W s (record { kind = k′; count = n; cells = rawAt st W₀ s .cells }) (record { kind = k′; rows = rowsAt st W₀ s }) h held w
-      (λ j. record { kind = k′; count = en j; cells = cells-node st W₀ s held j }) (fits-node st W₀ s held)
 
   -- a row is set
   pub row-now : (i : ℕ) (r : Row) → i < n → SlotsPut st W₀ W (putCells st W₀ s (over (rawAt st W₀ s .cells) i 1 (r ∷ [])))
@@ -189,6 +182,14 @@ module _ (st : Settings) (W₀ W : List ℕ) (s k n : ℕ) (h : s < st .nodes) (
       settle st W₀ W s (record { kind = q .kind; count = q .count; cells = over (q .cells) i 1 (r ∷ []) })
       (record { kind = nth (nodes st W₀) s .kind; rows = set l i r }) h held w
       (λ j. record { kind = kind-node st W₀ s j; count = count j; cells = cells j }) (omega arith)
+
+-- the kind is set
+pub kind-now : (st : Settings) (W₀ W : List ℕ) (s k : ℕ) → s < st .nodes → Held st W₀ → SlotsPut st W₀ W (putSlotKind st W₀ s k)
+    → NodesPut st W₀ W (putKind (nodes st W₀) s k)
+unfolding putKind rawFor
+kind-now st W₀ W s k h held w =
+    settle st W₀ W s (record { kind = k; count = rawAt st W₀ s .count; cells = rawAt st W₀ s .cells }) (record { kind = k; rows = rowsAt st W₀ s }) h held w
+    (λ j. record { kind = k; count = count-node st W₀ s held j; cells = cells-node st W₀ s held j }) (fits-node st W₀ s held)
 
 -- ---- a change of nodes, and another
 

@@ -5,7 +5,7 @@ use mathlib.Core.List.{List, [], _++_, map}
 use lib.ListN.{length, take, drop, getD, set, replicate}
 use Rattle.model.specs.declared.Settings.{Settings}
 use Rattle.slots_raw.specs.declared.Row.{Row}
-use Rattle.slots_raw.specs.Slots.{blank, Raw, slots, rawAt}
+use Rattle.slots_raw.specs.Slots.{blank, Raw, seen, slots, rawAt}
 use Rattle.slots_raw.specs.Contracts.{Shape}
 
 -- ---- nodes
@@ -31,6 +31,10 @@ unused = record { kind = unusedKind; rows = [] }
 -- the node in a slot: the rows past the count are no rows of it
 unfoldable pub nodeOf : Raw → Node
 nodeOf r = record { kind = r .kind; rows = take (r .count) (r .cells) }
+
+-- a node as the tree with its root in slot `root` sees it
+abbrev pub nodeSeen : ℕ → Node → Node
+nodeSeen root n = record { kind = seen root (n .kind); rows = n .rows }
 
 -- the nodes of a pool's words
 unfoldable pub nodes : Settings → List ℕ → List Node

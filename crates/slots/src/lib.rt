@@ -15,9 +15,10 @@ use slots_raw::raw_count;
 use slots_raw::raw_kind;
 use slots_raw::raw_row;
 use slots_write::raw_clear;
-use slots_write::raw_head;
 use slots_write::raw_move;
 use slots_write::raw_put;
+use slots_write::raw_put_count;
+use slots_write::raw_put_kind;
 
 // The kinds of a node: a slot that holds none, a leaf, an interior node.
 pub const UNUSED: u64 = 0;
@@ -55,8 +56,7 @@ pub fn set_kind(pool: &mut [u8], st: Settings, s: usize, k: u64)
     requires { ⌜ ToTouch st (words (now pool)) s ⌝ }
     ensures { λ _. let W = words (now (pool .entry)) in ⌜ NodesPut st W (words (now (pool .exit))) (putKind (nodes st W) s k) ⌝ }
 {
-    let n = count(pool, st, s);
-    raw_head(pool, st, s, k, n);
+    raw_put_kind(pool, st, s, k);
 }
 
 // Sets row `i` of node `s`.
@@ -75,10 +75,9 @@ pub fn insert_row(pool: &mut [u8], st: Settings, s: usize, i: usize, row: Row)
         ⌜ NodesPut st W (words (now (pool .exit))) (putRows (nodes st W) s (putIn (rowsAt st W s) i (row ∷ []))) ⌝ }
 {
     let n = count(pool, st, s);
-    let k = kind(pool, st, s);
     raw_move(pool, st, s, i, s, i + 1, n - i);
     raw_put(pool, st, s, i, row);
-    raw_head(pool, st, s, k, n + 1);
+    raw_put_count(pool, st, s, n + 1);
 }
 
 // Takes row `i` out of node `s`.
@@ -97,10 +96,9 @@ pub fn remove_rows(pool: &mut [u8], st: Settings, s: usize, i: usize, a: usize)
         ⌜ NodesPut st W (words (now (pool .exit))) (putRows (nodes st W) s (without (rowsAt st W s) i a)) ⌝ }
 {
     let n = count(pool, st, s);
-    let k = kind(pool, st, s);
     raw_move(pool, st, s, i + a, s, i, n - (i + a));
     raw_clear(pool, st, s, n - a, a);
-    raw_head(pool, st, s, k, n - a);
+    raw_put_count(pool, st, s, n - a);
 }
 
 // Gives up slot `s`: it is unused from now on.

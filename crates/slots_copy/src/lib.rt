@@ -7,11 +7,10 @@ ghost use Rattle.slots.specs.Contracts.{NodesPut};
 ghost use Rattle.slots_copy.specs.Contracts.{ToCopy};
 use model::Settings;
 use slots::count;
-use slots::kind;
 use slots_raw::HEAD;
 use slots_raw::ROW;
 use slots_raw::base;
-use slots_write::raw_head;
+use slots_write::raw_put_count;
 
 // Copies `n` rows of node `s` of the pool `source`, from row `from` on, to the end of node `t`. They go
 // as one run of words, and not row by row.
@@ -30,7 +29,6 @@ pub fn append_rows(
         ⌜ NodesPut st W (words (now (pool .exit))) (putRows (nodes st W) t (rowsAt st W t ++ part (rowsAt su U s) from n)) ⌝ }
 {
     let m = count(pool, st, t);
-    let k = kind(pool, st, t);
     let a = base(source, su, s);
     let b = base(pool, st, t);
     words_runs::bring(
@@ -40,5 +38,5 @@ pub fn append_rows(
         b + (HEAD + m * ROW),
         n * ROW,
     );
-    raw_head(pool, st, t, k, m + n);
+    raw_put_count(pool, st, t, m + n);
 }

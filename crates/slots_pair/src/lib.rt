@@ -11,8 +11,8 @@ use slots::kind;
 use slots::release;
 use slots::remove_rows;
 use slots::set_kind;
-use slots_write::raw_head;
 use slots_write::raw_move;
+use slots_write::raw_put_count;
 
 // Node `s` keeps its first `keep` rows, and the others go to the unused slot `new`.
 pub fn split(pool: &mut [u8], st: Settings, s: usize, new: usize, keep: usize)
@@ -64,8 +64,7 @@ fn insert_from(pool: &mut [u8], st: Settings, s: usize, from: usize, t: usize, i
         ⌜ NodesPut st W (words (now (pool .exit))) (putRows (nodes st W) t (putIn (rowsAt st W t) i (part (rowsAt st W s) from a))) ⌝ }
 {
     let n = count(pool, st, t);
-    let k = kind(pool, st, t);
     raw_move(pool, st, t, i, t, i + a, n - i);
     raw_move(pool, st, s, from, t, i, a);
-    raw_head(pool, st, t, k, n + a);
+    raw_put_count(pool, st, t, n + a);
 }

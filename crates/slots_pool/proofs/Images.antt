@@ -10,14 +10,14 @@ use lib.Seq.{length-take-le, take-at, drop-at}
 use Rattle.words.proofs.Laws.{nil-of-length}
 use Rattle.model.specs.declared.PoolSettings.{PoolSettings}
 use Rattle.model.specs.declared.Settings.{Settings}
-use Rattle.model.specs.Sound.{handed, InLimits}
+use Rattle.model.specs.Sound.{rowsFor, handed, InLimits, PoolLimits}
 use Rattle.model.proofs.Layers.{handed-roomy, handed-most}
 use Rattle.slots_raw.specs.declared.Row.{Row}
-use Rattle.slots_raw.specs.Slots.{chunks, rowsOf, width, headLen, rowLen, headIn, Raw, rawOf, seen, viewed, slotOf, slots, rawAt}
+use Rattle.slots_raw.specs.Slots.{chunks, rowsOf, width, headLen, rowLen, headIn, Raw, rawOf, viewed, slotOf, slots, rawAt}
 use Rattle.slots.specs.Nodes.{Node, unused, nodeOf, nodes, nth, pad, rawFor, Canon, Held}
 use Rattle.slots_pool.specs.Header.{headerOf}
 use Rattle.slots_pool.specs.Image.{flatRows, block, image}
-use Rattle.slots_raw.proofs.Views.{seen-back}
+use Rattle.slots_raw.proofs.Views.{seen-back, viewed-back}
 use Rattle.slots.proofs.Pads.{length-pad}
 use Rattle.slots.proofs.Nodes.{node-back, canon-for}
 use Rattle.slots_pool.proofs.Canons.{raw-empty, held-each}
@@ -37,10 +37,6 @@ unfolding block rawOf
 block-back m [] e = absurd (omega arith)
 block-back m (x ∷ []) e = absurd (omega arith)
 block-back m (x ∷ y ∷ b) e = ap (λ (r : List ℕ). x ∷ y ∷ r) (flat-rows (m) b (omega arith))
-
--- seen twice, a slot is as it was
-pub viewed-back : (root : ℕ) (r : Raw) → viewed root (viewed root r) ≡ r
-viewed-back root r = ap (λ (k : ℕ). record { kind = k; count = r .count; cells = r .cells }) (seen-back root (r .kind))
 
 image-chunks : (st : Settings) (n : ℕ) (l : List ℕ) → let m = st .rows in length l ≡ n * width m
     → ((s : ℕ) → Canon m (getD (map (slotOf st) (chunks (width m) n l)) s (rawOf m [])))
@@ -155,13 +151,13 @@ module _ (st : Settings) (H : List ℕ) (ns : List Node) (limits : InLimits st) 
   unfolding nodes
   image-is = ap (map nodeOf) slots-of ∙ nodes-back (st .rows) ns
 
--- a header and the image of some nodes
-pub image-nodes : (given : PoolSettings) (ns : List Node) → let st = handed given in InLimits st → length ns ≡ st .nodes → Fit (st .rows) ns
-    → Held st (headerOf given ++ image (st .root) (st .rows) ns) × (nodes st (headerOf given ++ image (st .root) (st .rows) ns) ≡ ns)
+-- a header and the image of some nodes, as the first tree sees them
+pub image-nodes : (given : PoolSettings) (ns : List Node) → let st = handed given 0 in PoolLimits given → length ns ≡ st .nodes → Fit (st .rows) ns
+    → Held st (headerOf given ++ image 0 (st .rows) ns) × (nodes st (headerOf given ++ image 0 (st .rows) ns) ≡ ns)
 image-nodes given ns limits all fit =
-    let st : Settings = handed given in
-    let roomy : 2 * st .order ≤ st .rows = handed-roomy given in
-    let most : st .rows ≤ 64 = handed-most given limits in (
-      image-held st (headerOf given) ns limits roomy most refl all fit,
-      image-is st (headerOf given) ns limits roomy most refl all fit,
+    let st : Settings = handed given 0 in
+    let roomy : 2 * handed given 0 .order ≤ handed given 0 .rows = handed-roomy given 0 in
+    let most : rowsFor given ≤ 64 = handed-most given limits in (
+      image-held st (headerOf given) ns (limits .0) roomy most refl all fit,
+      image-is st (headerOf given) ns (limits .0) roomy most refl all fit,
     )

@@ -18,10 +18,11 @@ use Rattle.slots_raw.specs.Contracts.{Shape, Based}
 use Rattle.slots.specs.Nodes.{unused, pad, rawFor}
 use Rattle.slots_pool.specs.Image.{flatRows, block}
 use Rattle.slots_raw.proofs.Over.{length-part}
+use Rattle.slots_raw.proofs.Views.{viewed-back}
 use Rattle.slots_raw.proofs.Raws.{zero-rows, rows-part, raw-words}
 use Rattle.slots.proofs.Pads.{last-part}
 use Rattle.slots_pool.proofs.Canons.{length-cells}
-use Rattle.slots_pool.proofs.Images.{flat-rows, block-back, raw-back, viewed-back}
+use Rattle.slots_pool.proofs.Images.{flat-rows, block-back, raw-back}
 
 -- ---- zero words
 

@@ -4,7 +4,7 @@ use mathlib.Core.List.{List, [], _∷_, _++_}
 use lib.ListN.{replicate}
 use Rattle.slots_raw.specs.declared.Row.{Row}
 use Rattle.slots_raw.specs.Slots.{Raw, viewed}
-use Rattle.slots.specs.Nodes.{Node, leafKind, unused, rawFor}
+use Rattle.slots.specs.Nodes.{Node, leafKind, unused, nodeSeen, rawFor}
 
 -- the words of some rows
 unfoldable pub flatRows : List Row → List ℕ
@@ -20,6 +20,9 @@ unfoldable pub image : ℕ → ℕ → List Node → List ℕ
 image root m [] = []
 image root m (n ∷ ns) = block (viewed root (rawFor m n)) ++ image root m ns
 
--- the n nodes of a pool that was just opened: an empty leaf in slot 0, and every other slot unused
+-- the n nodes of a pool that was just opened, as its first tree sees them: an empty leaf of each tree in slots 0 and 1, and every other slot unused
+abbrev pub emptyLeaf : Node
+emptyLeaf = record { kind = leafKind; rows = [] }
+
 abbrev pub newNodes : ℕ → List Node
-newNodes n = record { kind = leafKind; rows = [] } ∷ replicate (n - 1) unused
+newNodes n = emptyLeaf ∷ nodeSeen 1 emptyLeaf ∷ replicate (n - 2) unused

@@ -6,7 +6,8 @@ pub use blanks::slot_zero;
 pub use blanks::tail_zero;
 pub use header::layout;
 pub use header::open_pool;
+pub use header::reserved_zero;
 pub use header::settings;
 
 // The number of the layout that is described here: the first word of a header.
-pub const LAYOUT: u64 = 1;
+pub const LAYOUT: u64 = 2;

@@ -1,13 +1,11 @@
 -- Kinds as a tree sees them: seen twice they are as they were. Assumes nothing.
 use mathlib.Core.Path.{_≡_, refl, sym, ap, _∙_}
 use mathlib.Core.Logic.{_≢_}
-use mathlib.Core.Bool.{cond}
 use Prim.Native.Nat.{ℕ, zero, suc, _+_, _-_, _≤_, _<_}
 use native.Mathlib.Omega.{arith}
 use native.Mathlib.Decide.{decLt}
-use lib.Dec.{ltb}
 use borrow.Author.Tests.{lt-ltb, le-ltb}
-use Rattle.slots_raw.specs.Slots.{seen}
+use Rattle.slots_raw.specs.Slots.{Raw, seen, viewed}
 
 -- from slot 0 a kind is seen as it is stored
 pub seen-own : (k : ℕ) → seen 0 k ≡ k
@@ -65,6 +63,10 @@ seen-back (suc root) (suc k) = by (decLt (suc k) 3) (decLt (suc k) 5)
     by (no a) (no ge) =
         let past : 5 ≤ suc k = omega arith in
         ap (seen (suc root)) (seen-past (suc root) some (suc k) past) ∙ seen-past (suc root) some (suc k) past
+
+-- a slot too
+pub viewed-back : (root : ℕ) (r : Raw) → viewed root (viewed root r) ≡ r
+viewed-back root r = ap (λ (k : ℕ). record { kind = k; count = r .count; cells = r .cells }) (seen-back root (r .kind))
 
 -- so an unused slot is seen as one from everywhere, and no other is
 pub seen-unused : (root k : ℕ) → seen root k ≡ 0 → k ≡ 0

@@ -12,7 +12,7 @@ use Rattle.slots_raw.specs.declared.Row.{Row}
 
 -- of the header, of the head of a slot (its kind and its count), and of a row
 abbrev pub headLen : ℕ
-headLen = 4
+headLen = 8
 
 abbrev pub slotHead : ℕ
 slotHead = 2

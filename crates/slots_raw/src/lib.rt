@@ -11,7 +11,7 @@ ghost use Rattle.slots_raw.specs.Slots.{rawAt, blank};
 use model::Settings;
 
 // How many words the header has, the head of a slot (its kind and its count), and a row.
-pub const HEADER: usize = 4;
+pub const HEADER: usize = 8;
 
 pub const HEAD: usize = 2;
 

@@ -11,7 +11,7 @@ use Rattle.model.specs.declared.Settings.{Settings}
 use Rattle.slots_raw.specs.declared.Row.{Row}
 use Rattle.slots_raw.specs.Over.{over, part}
 use Rattle.slots_raw.specs.Slots.{chunks, rowOf, rowsOf, blank, rawOf, seen, viewed, slotOf, width, headLen, slotHead, rowLen, slots, rawAt}
-use Rattle.slots_write.specs.Puts.{withCells, withHead, putCells, putHead}
+use Rattle.slots_write.specs.Puts.{withKind, withCount, withCells, putSlotKind, putCount, putCells}
 use Rattle.slots_raw.specs.Contracts.{Shape, ToTouchCells, Based}
 use Rattle.slots_write.specs.Contracts.{SlotsPut}
 use Rattle.slots_raw.proofs.Over.{length-part, length-over, drop-over, take-over, getD-over, map-over, map-set}
@@ -44,10 +44,18 @@ rows-within rows b i n new e h k =
     ∙ map-over rowOf (chunks rowLen (rows) (drop slotHead b)) i n (chunks rowLen n new) in
     λ j. record { kind = kind j; count = count j; cells = cells j }
 
--- kind and count are replaced, the kind by what the tree sees as it
-headed : (st : Settings) (b : List ℕ) (k c : ℕ) → slotOf st (over b 0 slotHead (seen (st .root) k ∷ c ∷ [])) ≡ withHead (slotOf st b) k c
+-- the kind is replaced, by what the tree sees as it
+kinded : (st : Settings) (b : List ℕ) (k : ℕ) → slotOf st (over b 0 1 (seen (st .root) k ∷ [])) ≡ withKind (slotOf st b) k
 unfolding rawOf over
-headed st b k c = ap (λ (j : ℕ). withHead (slotOf st b) j c) (seen-back (st .root) k)
+kinded st [] k = ap (withKind (slotOf st [])) (seen-back (st .root) k)
+kinded st (v ∷ b) k = ap (withKind (slotOf st (v ∷ b))) (seen-back (st .root) k)
+
+-- the count is replaced
+counted : (st : Settings) (b : List ℕ) (c : ℕ) → 0 < length b → slotOf st (over b 1 1 (c ∷ [])) ≡ withCount (slotOf st b) c
+unfolding rawOf over
+counted st [] c h = absurd (omega arith)
+counted st (v ∷ []) c h = refl
+counted st (v ∷ (w ∷ b)) c h = refl
 
 -- ---- slot s of a pool
 
@@ -72,10 +80,15 @@ module _ (st : Settings) (W : List ℕ) (s : ℕ) (sh : Shape st W) (h : s < st 
 
   -- ---- what is replaced
 
-  pub head-over : (b k c : ℕ) → b ≡ headLen + s * width (st .rows) → SlotsPut st W (over W b slotHead (seen (st .root) k ∷ c ∷ [])) (putHead st W s k c)
-  head-over b k c eb =
+  pub kind-over : (b k : ℕ) → b ≡ headLen + s * width (st .rows) → SlotsPut st W (over W b 1 (seen (st .root) k ∷ [])) (putSlotKind st W s k)
+  kind-over b k eb =
       let z : b ≡ headLen + s * width (st .rows) + 0 = omega arith in
-      rw (z, raw-block st W s sh h) (rw (headed st (block st W s sh h) k c) at (block-over 0 slotHead (seen (st .root) k ∷ c ∷ []) (omega arith) refl))
+      rw (z, raw-block st W s sh h) (rw (kinded st (block st W s sh h) k) at (block-over 0 1 (seen (st .root) k ∷ []) (omega arith) refl))
+
+  pub count-over : (b c : ℕ) → b ≡ headLen + s * width (st .rows) → SlotsPut st W (over W (b + 1) 1 (c ∷ [])) (putCount st W s c)
+  count-over b c eb =
+      rw (eb, raw-block st W s sh h)
+      (rw (counted st (block st W s sh h) c (omega (arith, length-block st W s sh h))) at (block-over 1 1 (c ∷ []) (omega arith) refl))
 
   -- n rows from row i on
   pub rows-over : (b i n : ℕ) (new : List ℕ) → b ≡ headLen + s * width (st .rows) → i + n ≤ st .rows → length new ≡ n * rowLen
@@ -85,8 +98,11 @@ module _ (st : Settings) (W : List ℕ) (s : ℕ) (sh : Shape st W) (h : s < st 
 
   -- ---- what the functions of `words` leave
 
-  pub head-put : (b k c : ℕ) → Based st W s b → SlotsPut st W (set (set W b (seen (st .root) k)) (b + 1) c) (putHead st W s k c)
-  head-put b k c bs = rw (stores-over (c ∷ []) (seen (st .root) k) W b (omega arith)) (head-over b k c (bs .start))
+  pub kind-put : (b k : ℕ) → Based st W s b → SlotsPut st W (set W b (seen (st .root) k)) (putSlotKind st W s k)
+  kind-put b k bs = rw (stores-over [] (seen (st .root) k) W b (omega arith)) (kind-over b k (bs .start))
+
+  pub count-put : (b c : ℕ) → Based st W s b → SlotsPut st W (set W (b + 1) c) (putCount st W s c)
+  count-put b c bs = rw (stores-over [] c W (b + 1) (omega arith)) (count-over b c (bs .start))
 
   pub row-put : (b i : ℕ) (r : Row) → Based st W s b → i + 1 ≤ st .rows
       → SlotsPut st W (set (set (set W (b + (slotHead + i * rowLen)) (r .key)) (b + (slotHead + i * rowLen) + 1) (r .body)) (b + (slotHead + i * rowLen) + 2) (r .size))

@@ -1,4 +1,4 @@
-// Slots as they are stored, written: a head, a row, rows moved and rows cleared. A slot need not make sense before or after, so only the
+// Slots as they are stored, written: a kind, a count, a row, rows moved and rows cleared. A slot need not make sense before or after, so only the
 // functions on nodes are made of these: they leave a pool in order.
 ghost use Prim.Native.Nat.{_<_};
 ghost use mathlib.Core.List.{_∷_, []};
@@ -8,7 +8,7 @@ ghost use Rattle.slots_raw.specs.Over.{over, part};
 ghost use Rattle.slots_raw.specs.Contracts.{Shape, ToTouchCells};
 ghost use Rattle.slots_write.specs.Contracts.{SlotsPut};
 ghost use Rattle.slots_raw.specs.Slots.{rawAt, blank};
-ghost use Rattle.slots_write.specs.Puts.{putCells, putHead};
+ghost use Rattle.slots_write.specs.Puts.{putSlotKind, putCount, putCells};
 use model::Settings;
 use slots_raw::HEAD;
 use slots_raw::ROW;
@@ -16,14 +16,22 @@ use slots_raw::Row;
 use slots_raw::base;
 use slots_raw::seen;
 
-// Sets kind and count of slot `s`.
-pub fn raw_head(pool: &mut [u8], st: Settings, s: usize, kind: u64, count: usize)
+// Sets the kind of slot `s`.
+pub fn raw_put_kind(pool: &mut [u8], st: Settings, s: usize, kind: u64)
     requires { ⌜ Shape st (words (now pool)) × (s < st .nodes) ⌝ }
-    ensures { λ _. let W = words (now (pool .entry)) in ⌜ SlotsPut st W (words (now (pool .exit))) (putHead st W s kind count) ⌝ }
+    ensures { λ _. let W = words (now (pool .entry)) in ⌜ SlotsPut st W (words (now (pool .exit))) (putSlotKind st W s kind) ⌝ }
 {
     let b = base(pool, st, s);
     let stored = seen(st.root, kind);
     words::put(pool, b, stored);
+}
+
+// Sets the count of slot `s`.
+pub fn raw_put_count(pool: &mut [u8], st: Settings, s: usize, count: usize)
+    requires { ⌜ Shape st (words (now pool)) × (s < st .nodes) ⌝ }
+    ensures { λ _. let W = words (now (pool .entry)) in ⌜ SlotsPut st W (words (now (pool .exit))) (putCount st W s count) ⌝ }
+{
+    let b = base(pool, st, s);
     words::put(pool, b + 1, count as u64);
 }
 

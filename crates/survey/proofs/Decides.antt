@@ -6,7 +6,7 @@ use Prim.Native.Nat.{ℕ, zero, suc, _+_, _-_, _*_, _/_, _≤_, _<_}
 use native.Mathlib.Nat.{not-suc-le-zero}
 use native.Mathlib.Omega.{arith}
 use native.Mathlib.Decide.{map-dec, ℕ-discrete, decLe, decLt}
-use lib.ListN.{length}
+use lib.ListN.{length, getD}
 use Rattle.words.specs.Words.{words}
 use Rattle.slots_raw.specs.declared.Row.{Row}
 use Rattle.slots_raw.specs.Slots.{width, headLen, rawAt}
@@ -15,7 +15,6 @@ use Rattle.slots_pool.specs.Header.{layoutNumber, layoutOf}
 use Rattle.slots.specs.Nodes.{nodes, nth}
 use Rattle.slots.specs.Nodes as S
 use Rattle.slots_raw.proofs.Raws.{base-of}
-use Rattle.slots.proofs.Nodes.{length-nodes}
 use Rattle.slots_pool.proofs.Canons.{canon-zero, canon-count, past-raw}
 use Rattle.slots_pool.proofs.Zeros.{tail-tells, slot-tells}
 use Rattle.model.specs.declared.Entry.{Entry}
@@ -25,16 +24,15 @@ use Rattle.model.specs.Lists.{All, none, one, Ordered, nil, cons}
 use Rattle.model.specs.Tree.{Item, Tree, len, entries, slots, total, greatestKey}
 use Rattle.model.specs.Sound.{InLimits, Whole, Fits}
 use Rattle.model.proofs.Lists.{all-head, all-tail, all-every}
-use Rattle.tree.specs.Bridge.{childOf, childTotals, treeAt, unusedOf}
+use Rattle.tree.specs.Bridge.{childOf, childTotals, treeAt}
 use Rattle.tree.specs.Pool.{poolLen, givenIn, heightAt, settingsIn, Kinds, EachChild, Separates, Totalled, SoundPool}
 use Rattle.tree.proofs.Sums.{totals-discrete}
 use Rattle.tree.proofs.Pools.{exact-shape}
 use Rattle.survey.specs.Contracts.{Headed, Idle}
-use Rattle.tree_spare.proofs.Spares.{unused-few}
 use Rattle.survey_node.specs.Contracts.{Tail, Right, SoundTree}
 use Rattle.survey_node.specs.Parts.{leastRoot}
 use Rattle.survey_node.proofs.Heads.{tail-told}
-use Rattle.survey.proofs.Verdicts.{unmet, right-sound, sound-full, sound-right, sound-pool, pool-headed, pool-idle, pool-tree}
+use Rattle.survey.proofs.Verdicts.{unmet, right-passable, passable-right, Counted, sound-pool, pool-headed, pool-idle, pool-tree, pool-counted}
 
 -- OF DECISIONS
 
@@ -157,25 +155,20 @@ module _ (st : Settings) (W : List ℕ) (sh : Shape st W) where
       dec-totalled : (h : ℕ) (r : Row) (c : Tree h) → Dec (Totalled h r c)
       dec-totalled h r c = totals-discrete (childTotals r) (total (suc h) c)
 
-  -- the tree from the root: its height, its own nodes, and how many they are
+  -- the tree from the root: its height, and its own nodes
   abbrev high : ℕ
   high = heightAt (nodes st W) 8 (st .root)
 
-  abbrev used : ℕ
-  used = st .nodes - length (unusedOf (nodes st W))
-
-  counted : used + length (unusedOf (nodes st W)) ≡ st .nodes
-  counted = omega (arith, unused-few (nodes st W), length-nodes st W)
+  abbrev many : ℕ
+  many = length (slots (suc high) (treeAt (nodes st W) high (st .root)))
 
   dec-tree : Dec (SoundTree st W)
-  dec-tree = by (decLe high 7) (dec-right high (st .root) (leastRoot high) used) (ℕ-discrete (length (slots (suc high) (treeAt (nodes st W) high (st .root)))) used)
+  dec-tree = by (decLe high 7) (dec-right high (st .root) (leastRoot high) many)
     where
-      by : Dec (high ≤ 7) → Dec (Right st W high (st .root) (leastRoot high) unmet used) → Dec (length (slots (suc high) (treeAt (nodes st W) high (st .root))) ≡ used)
-          → Dec (SoundTree st W)
-      by (yes le) (yes g) (yes full) = yes (right-sound st W used counted le g full)
-      by (no gt) d e = no (λ t. gt (omega (arith, t .sound .shallow)))
-      by (yes le) (no wrong) e = no (λ t. wrong (sound-right st W used counted t))
-      by (yes le) (yes g) (no other) = no (λ t. other (sound-full st W used counted t))
+      by : Dec (high ≤ 7) → Dec (Right st W high (st .root) (leastRoot high) unmet many) → Dec (SoundTree st W)
+      by (yes le) (yes g) = yes (right-passable st W many le g .tree)
+      by (no gt) d = no (λ t. gt (omega (arith, t .sound .shallow)))
+      by (yes le) (no wrong) = no (λ t. wrong (passable-right st W many (record { tree = t; most = omega arith })))
 
 -- OF POOLS
 
@@ -188,20 +181,26 @@ dec-limits st =
 
 dec-headed : (l : List ℕ) → Dec (Headed l)
 dec-headed l =
-    map-dec (λ p. record { layout = p .0; settings = p .1 .0; exact = p .1 .1 }) (λ h. (h .layout, (h .settings, h .exact)))
-    (dec-both (ℕ-discrete (layoutOf (words l)) layoutNumber) (dec-both (dec-limits (settingsIn l)) (ℕ-discrete (length l) (poolLen (givenIn l)))))
+    map-dec (λ p. record { layout = p .0; reserved = p .1 .0; settings = p .1 .1 .0; exact = p .1 .1 .1 }) (λ h. (h .layout, (h .reserved, (h .settings, h .exact))))
+    (dec-both (ℕ-discrete (layoutOf (words l)) layoutNumber)
+    (dec-both (dec-both (ℕ-discrete (getD (words l) 4 0) 0) (ℕ-discrete (getD (words l) 7 0) 0))
+    (dec-both (dec-both (dec-limits (settingsIn l 0)) (dec-limits (settingsIn l 1))) (ℕ-discrete (length l) (poolLen (givenIn l))))))
 
 -- any bytes are a sound pool, or are not
 pub sound-decided : (l : List ℕ) → Dec (SoundPool l)
 sound-decided l = by (dec-headed l)
   where
-    rest : Headed l → Dec ((s : ℕ) → Idle (settingsIn l) (words l) s) → Dec (SoundTree (settingsIn l) (words l)) → Dec (SoundPool l)
-    rest h (yes idle) (yes t) = yes (sound-pool l h idle t)
-    rest h (no wrong) d = no (λ s. wrong (pool-idle l s))
-    rest h (yes idle) (no wrong) = no (λ s. wrong (pool-tree l s))
+    rest : Headed l → Dec ((s : ℕ) → Idle (settingsIn l 0) (words l) s) → Dec (SoundTree (settingsIn l 0) (words l)) → Dec (SoundTree (settingsIn l 1) (words l))
+        → Dec (Counted l) → Dec (SoundPool l)
+    rest h (yes idle) (yes a) (yes b) (yes n) = yes (sound-pool l h idle a b n)
+    rest h (no wrong) d e n = no (λ s. wrong (pool-idle l s))
+    rest h (yes idle) (no wrong) e n = no (λ s. wrong (pool-tree l s 0))
+    rest h (yes idle) (yes a) (no wrong) n = no (λ s. wrong (pool-tree l s 1))
+    rest h (yes idle) (yes a) (yes b) (no wrong) = no (λ s. wrong (pool-counted l s))
 
     by : Dec (Headed l) → Dec (SoundPool l)
     by (no wrong) = no (λ s. wrong (pool-headed l s))
     by (yes h) =
-        let sh : Shape (settingsIn l) (words l) = exact-shape (givenIn l) l (h .settings) (h .exact) in
-        rest h (dec-all-idle (settingsIn l) (words l) sh) (dec-tree (settingsIn l) (words l) sh)
+        let sh : (i : ℕ) → Shape (settingsIn l i) (words l) = λ i. exact-shape (givenIn l) i l (h .settings) (h .exact) in
+        rest h (dec-all-idle (settingsIn l 0) (words l) (sh 0)) (dec-tree (settingsIn l 0) (words l) (sh 0)) (dec-tree (settingsIn l 1) (words l) (sh 1))
+        (ℕ-discrete _ _)

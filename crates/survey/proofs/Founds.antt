@@ -1,4 +1,4 @@
--- What a survey has found, told by its first word: the pool is not sound, or it is, and the settings and the height are its own. Assumes nothing.
+-- What a survey has found, told by its first word: the pool is not sound, or it is, and what was found is its own. Assumes nothing.
 use Prim.Native.Nat.{ℕ}
 use mathlib.Core.Path.{_≡_}
 use mathlib.Core.Bool.{true, false, not}
@@ -6,7 +6,6 @@ use mathlib.Core.List.{List}
 use borrow.Author.Tests.{not-true, not-false}
 use Rattle.model.proofs.Answers.{told-no}
 use Rattle.tree.specs.Pool.{SoundPool}
-use Rattle.tree.specs.Contracts.{InPool}
 use Rattle.survey.specs.declared.Findings.{Findings}
 use Rattle.survey.specs.Contracts.{Surveyed}
 
@@ -15,8 +14,8 @@ module _ {l : List ℕ} {f : Findings} (s : Surveyed l f) where
   unsound e = told-no (s .sound) (not-true (f .sound) e)
 
   module _ (e : not (f .sound) ≡ false) where
-    pub sound : SoundPool l
-    sound = s .sound .holds (not-false (f .sound) e)
+    pub told : f .sound ≡ true
+    told = not-false (f .sound) e
 
-    pub in-pool : InPool l (f .settings) (f .height)
-    in-pool = record { sound = sound; own = s .settings (not-false (f .sound) e); tall = s .height (not-false (f .sound) e) }
+    pub sound : SoundPool l
+    sound = s .sound .holds told

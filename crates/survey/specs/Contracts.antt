@@ -6,9 +6,9 @@ use mathlib.Core.List.{List}
 use lib.ListN.{length}
 use Rattle.words.specs.Words.{words}
 use Rattle.model.specs.Answer.{Tells}
-use Rattle.model.specs.Sound.{InLimits}
-use Rattle.slots_pool.specs.Header.{layoutNumber, layoutOf}
-use Rattle.tree.specs.Pool.{poolLen, givenIn, settingsIn, nodesIn, indexOf, SoundPool}
+use Rattle.model.specs.Sound.{PoolLimits}
+use Rattle.slots_pool.specs.Header.{layoutNumber, layoutOf, Reserved}
+use Rattle.tree.specs.Pool.{poolLen, givenIn, nodesIn, indexOf, SoundPool}
 use Rattle.tree_spare.specs.Spared.{Spared}
 use Rattle.slots_raw.specs.Slots.{rawAt}
 use Rattle.slots.specs.Nodes.{unusedKind, nodes, nth, unused, rawFor}
@@ -23,24 +23,27 @@ abbrev pub unsound : Findings
 unsound =
     record {
       sound = false;
-      settings = record { nodes = 0; order = 0; minimum = 0; rows = 0; root = 0 };
-      height = 0;
+      given = record { nodes = 0; first = record { order = 0; minimum = 0 }; second = record { order = 0; minimum = 0 } };
+      first = 0;
+      second = 0;
       spare = record { low = 0; unused = 0 };
     }
 
 -- Any bytes l are surveyed: r is the answer.
 pub record Surveyed (l : List ℕ) (r : Findings) : Type 0 where
   pub sound : Tells (r .sound) (SoundPool l)
-  -- of a sound pool: its settings, the height of its tree, and its unused slots
-  pub settings : r .sound ≡ true → r .settings ≡ settingsIn l
-  pub height : r .sound ≡ true → r .height ≡ indexOf l .height
-  pub spared : r .sound ≡ true → Spared (nodesIn l) (r .spare)
+  -- of a sound pool: its settings, the heights of its trees, and its unused slots
+  pub given : r .sound ≡ true → r .given ≡ givenIn l
+  pub first : r .sound ≡ true → r .first ≡ indexOf l 0 .height
+  pub second : r .sound ≡ true → r .second ≡ indexOf l 1 .height
+  pub spared : r .sound ≡ true → Spared (nodesIn l 0) (r .spare)
   pub nothing : r .sound ≡ false → r ≡ unsound
 
 -- what the header and the length say of a sound pool
 pub record Headed (l : List ℕ) : Type 0 where
   pub layout : layoutOf (words l) ≡ layoutNumber
-  pub settings : InLimits (settingsIn l)
+  pub reserved : Reserved (words l)
+  pub settings : PoolLimits (givenIn l)
   pub exact : length l ≡ poolLen (givenIn l)
 
 -- THE PASS OVER THE SLOTS

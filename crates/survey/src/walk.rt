@@ -1,4 +1,4 @@
-// The walk over the tree of a pool that has the right length. It reads each node that it opens from its first word to its last: head,
+// The walk over a tree of a pool that has the right length. It reads each node that it opens from its first word to its last: head,
 // rows, and the zeros past them.
 //
 // Before it goes down from an interior it reads the first word of every child. Where the nodes of a tree lie scattered over a large
@@ -9,10 +9,9 @@ ghost use Prim.Native.Nat.{_<_};
 ghost use Rattle.words.specs.Words.{words};
 ghost use Rattle.slots_raw.specs.Contracts.{Shape};
 ghost use Rattle.slots.specs.Nodes.{nodes, rowsAt};
-ghost use Rattle.model.specs.Answer.{Tells};
 ghost use Rattle.tree.specs.Pool.{firstChild, heightAt};
 ghost use Rattle.survey_node.specs.Parts.{last, leastRoot};
-ghost use Rattle.survey_node.specs.Contracts.{There, Checked, ToWalk, SoundTree};
+ghost use Rattle.survey_node.specs.Contracts.{There, Checked, Walked};
 use model::Settings;
 use survey_node::Part;
 use survey_node::begin;
@@ -54,24 +53,20 @@ fn first_child(pool: &[u8], st: Settings, s: usize) -> usize
     tree_rows::child_of(slots_raw::raw_row(pool, st, s, 0))
 }
 
-// Whether the tree is that of a sound pool, where `used` nodes are in use.
-pub fn tree_right(pool: &[u8], st: Settings, height: usize, used: usize) -> bool
+// Walks over a tree, which may have `left` nodes: whether it is that of a sound pool, and how many nodes may still be opened.
+pub fn walk_tree(pool: &[u8], st: Settings, height: usize, left: usize) -> Part
     requires shape { ⌜ Shape st (words (now pool)) ⌝ }
-    requires known { ⌜ ToWalk st (words (now pool)) height used ⌝ }
-    ensures { λ r. ⌜ Tells r (SoundTree st (words (now (pool .entry)))) ⌝ }
+    requires edge { ⌜ height ≡ heightAt (nodes st (words (now pool))) 8 (st .root) ⌝ }
+    ensures { λ r. ⌜ Walked st (words (now (pool .entry))) left r ⌝ }
 {
     if 7 < height {
-        return false;
+        return fault();
     }
     if !there(pool, st, height, st.root) {
-        return false;
+        return fault();
     }
     let least = least_root(height);
-    let root = check_node(pool, st, height, st.root, least, false, 0, used);
-    if !root.ok {
-        return false;
-    }
-    root.left == 0
+    check_node(pool, st, height, st.root, least, false, 0, left)
 }
 
 // Tests the tree of height `height` in slot `s`, whose root has `least` rows or more, and which may have `left` nodes. Its keys must

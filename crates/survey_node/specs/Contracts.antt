@@ -12,8 +12,8 @@ use Rattle.model.specs.Answer.{Tells}
 use Rattle.model.specs.Lists.{All}
 use Rattle.model.specs.Tree.{len, entries, slots, slotsOf, total}
 use Rattle.model.specs.Sound.{Whole, Sorted, Fits}
-use Rattle.tree.specs.Bridge.{kindFor, childOf, childTotals, entryOf, treeAt, unusedOf}
-use Rattle.tree.specs.Pool.{heightAt, indexIn, Kinds, EachChild, Separates, Totalled, SoundNodes}
+use Rattle.tree.specs.Bridge.{kindFor, childOf, childTotals, entryOf, treeAt}
+use Rattle.tree.specs.Pool.{indexIn, Kinds, EachChild, Separates, Totalled, SoundNodes}
 use Rattle.survey_node.specs.declared.Part.{Part}
 use Rattle.survey_node.specs.Parts.{Last, after, Beyond}
 
@@ -78,14 +78,19 @@ pub record RowRight (r : Row) (child : Part) : Type 0 where
   pub key : r .key ≡ child .last
   pub totals : childTotals r ≡ child .totals
 
--- THE ROOT
+-- A TREE, from its root
 
--- what the walk is handed: the height down the left edge, and how many nodes are in use
-pub record ToWalk (st : Settings) (W : List ℕ) (h n : ℕ) : Type 0 where
-  pub height : h ≡ heightAt (nodes st W) 8 (st .root)
-  pub used : n + length (unusedOf (nodes st W)) ≡ st .nodes
-
--- what it tells: the nodes are sound, and each that is reached has zeros past its rows
+-- the nodes are sound, and each that is reached has zeros past its rows
 pub record SoundTree (st : Settings) (W : List ℕ) : Type 0 where
   pub sound : SoundNodes st (nodes st W)
   pub tails : All (Tail st W) (slotsOf (indexIn (st .root) (nodes st W)))
+
+-- a walk that may open `left` nodes comes through it
+pub record Passable (st : Settings) (W : List ℕ) (left : ℕ) : Type 0 where
+  pub tree : SoundTree st W
+  pub most : length (slotsOf (indexIn (st .root) (nodes st W))) ≤ left
+
+-- r tells whether it does; if so, how many nodes may still be opened
+pub record Walked (st : Settings) (W : List ℕ) (left : ℕ) (r : Part) : Type 0 where
+  pub ok : Tells (r .ok) (Passable st W left)
+  pub rest : r .ok ≡ true → r .left + length (slotsOf (indexIn (st .root) (nodes st W))) ≡ left

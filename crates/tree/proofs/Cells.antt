@@ -2,7 +2,7 @@
 use mathlib.Core.Path.{_≡_, refl, sym, ap, _∙_, subst}
 use mathlib.Core.Logic.{_≢_}
 use mathlib.Core.List.{List, [], _∷_, _++_, map, reverseAux}
-use Prim.Native.Nat.{ℕ, zero, suc, _+_, _<_}
+use Prim.Native.Nat.{ℕ, zero, suc, _+_, _≤_, _<_}
 use native.Mathlib.Omega.{arith}
 use native.Mathlib.Decide.{ℕ-discrete}
 use Rattle.slots.specs.Nodes.{unusedKind, interiorKind, nth}
@@ -78,28 +78,40 @@ pub kind-used : (h : ℕ) → kindFor h ≢ unusedKind
 kind-used zero e = absurd (omega arith)
 kind-used (suc h) e = absurd (omega arith)
 
+-- what holds of each kind that a node of a tree can have holds of every node of it
+module _ (P : ℕ → Type 0) (p : (h : ℕ) → P (kindFor h)) where
+  list-kinds : (h : ℕ) → ((i : Item h) → All (λ c. P (c .node .kind)) (cells h i)) → (xs : List (Item h)) → All (λ c. P (c .node .kind)) (cellsOf h xs)
+  list-kinds h f [] = none
+  list-kinds h f (i ∷ xs) = all-append (f i) (list-kinds h f xs)
+
+  pub each-kind : (h : ℕ) (i : Item h) → All (λ c. P (c .node .kind)) (cells h i)
+  each-kind zero e = none
+  each-kind (suc h) n = one {x = record { slot = n .slot; node = nodeFor h n }} (p h) (list-kinds h (each-kind h) (n .items))
+
+  pub items-kind : (h : ℕ) (xs : List (Item h)) → All (λ c. P (c .node .kind)) (cellsOf h xs)
+  items-kind h xs = list-kinds h (each-kind h) xs
+
 abbrev pub Full : Cell → Type 0
 Full c = c .node .kind ≢ unusedKind
 
-module _ (h : ℕ) (f : (i : Item h) → All Full (cells h i)) where
-  list-full : (xs : List (Item h)) → All Full (cellsOf h xs)
-  list-full [] = none
-  list-full (i ∷ xs) = all-append (f i) (list-full xs)
-
 pub full : (h : ℕ) (i : Item h) → All Full (cells h i)
-full zero e = none
-full (suc h) n = one {x = record { slot = n .slot; node = nodeFor h n }} (kind-used h) (list-full h (full h) (n .items))
+full = each-kind (λ k. k ≢ unusedKind) kind-used
 
-used-by : (ns : List S.Node) (cs : List Cell) → All Full cs → All (Stands ns) cs → (x : ℕ) → 0 < times x (places cs) → nth ns x .kind ≢ unusedKind
-used-by ns [] none none x h = absurd (omega arith)
-used-by ns (c ∷ cs) (one a us) (one b bs) x h = by (used-by ns cs us bs x) (ℕ-discrete x (c .slot))
+-- what holds of the kinds of cells that stand in some nodes holds of the kinds in their slots
+pub kinds-by : (P : ℕ → Type 0) (ns : List S.Node) (cs : List Cell) → All (λ c. P (c .node .kind)) cs → All (Stands ns) cs → (x : ℕ) → 0 < times x (places cs)
+    → P (nth ns x .kind)
+kinds-by P ns [] none none x h = absurd (omega arith)
+kinds-by P ns (c ∷ cs) (one a us) (one b bs) x h = by (kinds-by P ns cs us bs x) (ℕ-discrete x (c .slot))
   where
-    by : (0 < times x (places cs) → nth ns x .kind ≢ unusedKind) → Dec (x ≡ c .slot) → nth ns x .kind ≢ unusedKind
-    by r (yes e) = λ q. a (ap (λ (n : S.Node). n .kind) (sym b) ∙ ap (λ (y : ℕ). nth ns y .kind) (sym e) ∙ q)
+    by : (0 < times x (places cs) → P (nth ns x .kind)) → Dec (x ≡ c .slot) → P (nth ns x .kind)
+    by r (yes e) = subst P (ap (λ (n : S.Node). n .kind) (sym b) ∙ ap (λ (y : ℕ). nth ns y .kind) (sym e)) a
     by r (no e) = r (omega (arith, hit-other x (c .slot) e))
 
+pub used-by : (ns : List S.Node) (cs : List Cell) → All Full cs → All (Stands ns) cs → (x : ℕ) → 0 < times x (places cs) → nth ns x .kind ≢ unusedKind
+used-by = kinds-by (λ k. k ≢ unusedKind)
+
 pub used-items : (ns : List S.Node) (h : ℕ) (xs : List (Item h)) → All (Stands ns) (cellsOf h xs) → (x : ℕ) → 0 < times x (slotsIn h xs) → nth ns x .kind ≢ unusedKind
-used-items ns h xs k x g = used-by ns (cellsOf h xs) (list-full h (full h) xs) k x (subst (λ (l : List ℕ). 0 < times x l) (sym (items-places h xs)) g)
+used-items ns h xs k x g = used-by ns (cellsOf h xs) (items-kind (λ k. k ≢ unusedKind) kind-used h xs) k x (subst (λ (l : List ℕ). 0 < times x l) (sym (items-places h xs)) g)
 
 pub used-tree : (ns : List S.Node) (h : ℕ) (t : Tree h) → Holds ns h t → (x : ℕ) → 0 < times x (slots (suc h) t) → nth ns x .kind ≢ unusedKind
 used-tree ns h t k x g = used-by ns (cells (suc h) t) (full (suc h) t) k x (subst (λ (l : List ℕ). 0 < times x l) (sym (cell-places (suc h) t)) g)
@@ -107,3 +119,13 @@ used-tree ns h t k x g = used-by ns (cells (suc h) t) (full (suc h) t) k x (subs
 pub high-kind : (h : ℕ) → h ≢ 0 → interiorKind ≡ kindFor h
 high-kind zero ne = absurd (ne refl)
 high-kind (suc h) ne = refl
+
+-- a tree's own nodes are of the two kinds that it sees as its own
+own-few : (h : ℕ) → kindFor h ≤ interiorKind
+own-few zero = omega arith
+own-few (suc h) = omega arith
+
+pub own-tree : (ns : List S.Node) (h : ℕ) (t : Tree h) → Holds ns h t → (x : ℕ) → 0 < times x (slots (suc h) t) → nth ns x .kind ≤ interiorKind
+own-tree ns h t k x g =
+    kinds-by (λ j. j ≤ interiorKind) ns (cells (suc h) t) (each-kind (λ j. j ≤ interiorKind) own-few (suc h) t) k x
+    (subst (λ (l : List ℕ). 0 < times x l) (sym (cell-places (suc h) t)) g)

@@ -1,5 +1,5 @@
 -- A sound index is small: at most 2 ^ 19 entries, and every slot of it is one of the pool's, taken once. Assumes nothing.
-use mathlib.Core.Path.{_≡_, _∙_}
+use mathlib.Core.Path.{_≡_}
 use mathlib.Core.Bool.{cond}
 use mathlib.Core.List.{List}
 use Prim.Native.Nat.{ℕ, _+_, _≤_, _<_}
@@ -8,11 +8,11 @@ use native.Mathlib.Decide.{decLt}
 use native.Mathlib.Nat.{le-trans, mul-le-mul}
 use lib.Dec.{ltb}
 use lib.ListN.{length}
-use borrow.Author.Tests.{lt-ltb, le-ltb}
+use borrow.Author.Tests.{le-ltb}
 use Rattle.model.specs.declared.Settings.{Settings}
 use Rattle.model.specs.Lists.{times, All}
 use Rattle.model.specs.Tree.{Index, entriesOf, slotsOf}
-use Rattle.model.specs.Sound.{Sound, Alone}
+use Rattle.model.specs.Sound.{Sound}
 use Rattle.model.proofs.Lists.{by-test, times-append}
 use Rattle.model.proofs.Numbers.{all-times}
 use Rattle.model.proofs.Trees.{root-few, entries-few, used-most}
@@ -50,7 +50,3 @@ module _ (st : Settings) {elsewhere : List ℕ} (x : Index) (s : Sound st elsewh
 
   pub slots-apart : Apart (x .height) (x .root)
   slots-apart t = omega (arith, slot-once t)
-
--- in a pool of its own, a slot below N is used or unused, and not both
-pub slot-inside : (st : Settings) (x : Index) → Alone st x → (t : ℕ) → t < st .nodes → times t (slotsOf x) + times t (x .unused) ≡ 1
-slot-inside st x s t h = s .once t ∙ rw (lt-ltb t (st .nodes) h)

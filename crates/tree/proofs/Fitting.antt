@@ -16,14 +16,16 @@ use Rattle.model.specs.declared.PoolSettings.{PoolSettings}
 use Rattle.model.specs.declared.Settings.{Settings}
 use Rattle.model.specs.Lists.{All, none, one}
 use Rattle.model.specs.Tree.{Item, Tree, Index, len, entries, slots, slotsOf, total}
-use Rattle.model.specs.Sound.{handed, InLimits, Whole, Fits, Sound}
+use Rattle.model.specs.Sound.{rowsFor, handed, Whole, Fits, Sound}
+use Rattle.model.specs.Forest.{Forest, treeOf, SoundForest}
+use Rattle.model.proofs.Layers.{handed-roomy}
 use Rattle.model.specs.Contracts.{flat}
 use Rattle.model.proofs.Lists.{all-append, all-left, all-right, all-map, all-of, all-head}
 use Rattle.model.proofs.Trees.{slotsIn, listTotals, total-list, totals-count, sizes-few, root-few}
 use Rattle.model.proofs.Readable.{separator-has}
 use Rattle.slots_pool.specs.Header.{layoutNumber}
 use Rattle.tree.specs.Bridge.{kindFor, rowFor, nodeFor, Cell, cells, cellsOf}
-use Rattle.tree.specs.Pool.{nodesOf, wordsOf}
+use Rattle.tree.specs.Pool.{seenCell, nodesOf, wordsOf}
 use Rattle.tree.proofs.Few.{entries-most, slots-low}
 use Rattle.tree.proofs.NodesOf.{nodesOf-have}
 
@@ -136,15 +138,36 @@ module _ (st : Settings) {elsewhere : List ℕ} (x : Index) (s : Sound st elsewh
       one {x = record { slot = x .root .slot; node = nodeFor (x .height) (x .root) }}
       (node-fits st (x .height) (x .root) (root-few st (x .height) (x .root) (s .rooted)) ps) (list-fits st (x .height) (cells-fit st (x .height)) ps)
 
-  pub nodesOf-fit : (t : ℕ) → NodeFits (st .order) (nth (nodesOf (st .nodes) x) t)
-  nodesOf-fit = nodesOf-have (NodeFits (st .order)) (record { kind = omega arith; few = omega arith; rows = none }) (st .nodes) x index-fits
+-- of a forest: the second tree's as the first sees them
+wider : {a b : ℕ} {n : S.Node} → a ≤ b → NodeFits a n → NodeFits b n
+wider le f = record { kind = f .kind; few = omega (arith, f .few); rows = f .rows }
 
-pub image-fits : (given : PoolSettings) {elsewhere : List ℕ} (x : Index) → Sound (handed given) elsewhere x → (i : ℕ) → getD (wordsOf given x) i 0 < 2 ^ 64
-image-fits given x s =
-    let st : Settings = handed given in
-    let lim : InLimits (handed given) = s .settings in
-    let layout : Word layoutNumber = omega arith in
-    let nodes : Word (given .nodes) = omega (arith, lim .bounded) in
-    let order : Word (given .order) = omega (arith, lim .narrow) in
-    let minimum : Word (given .minimum) = omega (arith, lim .least, lim .narrow) in
-    word-at (one layout (one nodes (one order (one minimum (image-words (st .root) (st .rows) (st .order) (nodesOf (st .nodes) x) (lim .narrow) (nodesOf-fit st x s))))))
+seen-fits : {m : ℕ} {n : S.Node} → NodeFits m n → NodeFits m (S.nodeSeen 1 n)
+seen-fits {n = n} f = record { kind = seen-few 1 (n .kind) (f .kind); few = f .few; rows = f .rows }
+
+module _ (given : PoolSettings) (f : Forest) (s : SoundForest given f) where
+  pub nodesOf-fit : (t : ℕ) → NodeFits 32 (nth (nodesOf (given .nodes) f) t)
+  nodesOf-fit =
+      nodesOf-have (NodeFits 32) (record { kind = omega arith; few = omega arith; rows = none }) (given .nodes) f
+      (all-append (all-map (λ c g. wider (s .limits .0 .narrow) g) (index-fits (handed given 0) (treeOf 0 f) (s .trees 0)))
+      (all-of seenCell (all-map (λ c g. seen-fits (wider (s .limits .1 .narrow) g)) (index-fits (handed given 1) (treeOf 1 f) (s .trees 1)))))
+
+  -- a slot has room for each
+  pub nodesOf-room : (t : ℕ) → length (nth (nodesOf (given .nodes) f) t .rows) ≤ rowsFor given
+  nodesOf-room =
+      nodesOf-have (λ (n : S.Node). length (n .rows) ≤ rowsFor given) (omega arith) (given .nodes) f
+      (all-append (all-map (λ c g. omega (arith, g .few, handed-roomy given 0)) (index-fits (handed given 0) (treeOf 0 f) (s .trees 0)))
+      (all-of seenCell (all-map (λ c g. omega (arith, g .few, handed-roomy given 1)) (index-fits (handed given 1) (treeOf 1 f) (s .trees 1)))))
+
+  pub image-fits : (i : ℕ) → getD (wordsOf given f) i 0 < 2 ^ 64
+  image-fits =
+      let lim = s .limits in
+      let layout : Word layoutNumber = omega arith in
+      let zero-word : Word 0 = omega arith in
+      let nodes : Word (given .nodes) = omega (arith, s .limits .0 .bounded) in
+      let order : Word (given .first .order) = omega (arith, s .limits .0 .narrow) in
+      let minimum : Word (given .first .minimum) = omega (arith, s .limits .0 .least, s .limits .0 .narrow) in
+      let order1 : Word (given .second .order) = omega (arith, s .limits .1 .narrow) in
+      let minimum1 : Word (given .second .minimum) = omega (arith, s .limits .1 .least, s .limits .1 .narrow) in
+      word-at (one layout (one nodes (one order (one minimum (one zero-word (one order1 (one minimum1 (one zero-word
+      (image-words 0 (rowsFor given) 32 (nodesOf (given .nodes) f) (omega arith) nodesOf-fit)))))))))

@@ -8,8 +8,8 @@ use Rattle.slots_raw.specs.declared.Row.{Row}
 use Rattle.slots.specs.Nodes as S
 use Rattle.model.specs.declared.Settings.{Settings}
 use Rattle.model.specs.Lists.{All, one}
-use Rattle.model.specs.Tree.{Tree, Index, len, depth, entriesOf, slotsOf}
-use Rattle.model.specs.Sound.{Whole, Rooted, Sorted, Fits, Once, Sound, Alone}
+use Rattle.model.specs.Tree.{Tree, Index, len, depth, entriesOf}
+use Rattle.model.specs.Sound.{Whole, Rooted, Sorted, Fits, Sound}
 use Rattle.model.proofs.Lists.{all-left, all-head, all-tail}
 use Rattle.tree.specs.Bridge.{childOf, rowFor, cells, cellsOf, Stands, Holds, treeAt, unusedOf}
 use Rattle.tree.specs.Pool.{firstChild, heightAt, indexIn, Kinds, EachChild, Separates, Totalled, SoundNodes}
@@ -90,17 +90,14 @@ module _ (st : Settings) {elsewhere : List ℕ} (ns : List S.Node) (x : Index) (
       ∙ ap (λ (t : Tree (x .height)). record { height = x .height; root = t; unused = unusedOf ns }) root
       ∙ ap (λ (l : List ℕ). record { height = x .height; root = x .root; unused = l }) u
 
--- in a pool of its own
-module _ (st : Settings) (ns : List S.Node) (x : Index) (sound : Alone st x) (k : Holds ns (x .height) (x .root)) (u : unusedOf ns ≡ x .unused) where
   pub held-sound : SoundNodes st ns
   held-sound =
-      let e : x ≡ indexIn (st .root) ns = sym (held-index st ns x sound k u) in
-      let light : Light (x .height) (x .root) = light-root st ns x sound k u in
+      let e : x ≡ indexIn (st .root) ns = sym held-index in
+      let light : Light (x .height) (x .root) = light-root in
       let at-root : (P : ℕ → Type 0) → P (x .root .slot) → P (st .root) = λ P p. subst P (sound .rootSlot) p in
       record {
         kinds = subst (λ (y : Index). Kinds ns (y .height) (st .root)) e (at-root (Kinds ns (x .height)) (held-kinds ns (x .height) (x .root) light k));
         shallow = subst (λ (y : Index). depth y ≤ 8) e (sound .shallow);
-        once = subst (λ (y : Index). Once (st .nodes) (slotsOf y) (y .unused)) e (sound .once);
         rooted = subst (λ (y : Index). Rooted st (y .height) (y .root)) e (sound .rooted);
         whole = subst (λ (y : Index). All (Whole st (y .height)) (y .root .items)) e (sound .whole);
         sorted = subst (λ (y : Index). Sorted (entriesOf y)) e (sound .sorted);

@@ -1,6 +1,5 @@
 -- The laws of specs/. `Rows`, `Sums` and `Bounds` are of a row's words and what they add up to, `Keys` of its key, `Children` of the rows of
--- a node that holds a tree; `Pools` ends in what this crate is for: sound pools and sound indexes are one and the same.
--- `LiveSizes` is of pools of before.
+-- a node that holds a tree; `Pools` ends in what this crate is for: sound pools and sound forests are one and the same.
 pub mod Cells
 pub mod Unused
 pub mod Rows
@@ -14,6 +13,5 @@ pub mod HoldsSound
 pub mod NodesOf
 pub mod Fitting
 pub mod Pools
-pub mod LiveSizes
 pub mod Opening
 pub mod Children

@@ -1,55 +1,57 @@
--- The nodes of an index and no others hold it: `nodesOf` holds a sound index, and nodes that do are `nodesOf`. Assumes nothing.
+-- The nodes of a forest and no others hold it: `nodesOf` holds a sound forest, and nodes that do are `nodesOf`. Assumes nothing.
 use mathlib.Core.Path.{_≡_, refl, sym, ap, _∙_, subst}
-use mathlib.Core.Logic.{_≢_}
-use mathlib.Core.List.{List, [], _∷_}
-use Prim.Native.Nat.{ℕ, suc, _+_, _≤_, _<_}
+use mathlib.Core.Bool.{cond}
+use mathlib.Core.List.{List, [], _∷_, _++_, map}
+use Prim.Native.Nat.{ℕ, zero, suc, _+_, _≤_, _<_}
 use native.Mathlib.Omega.{arith}
 use native.Mathlib.Decide.{ℕ-discrete, decLt}
-use lib.Dec.{eqb}
+use lib.Dec.{eqb, ltb}
 use lib.ListN.{length, length-map, List·getD-eq-default}
 use lib.Seq.{ext-getD}
-use borrow.Author.Tests.{eq-eqb, ne-eqb, eqb-true, eqb-false}
-use Rattle.slots.specs.Nodes.{unusedKind, nth, unused}
+use borrow.Author.Tests.{lt-ltb, le-ltb, eq-eqb, ne-eqb, eqb-true, eqb-false}
+use Rattle.slots_raw.proofs.Over.{map-append}
+use Rattle.slots_raw.proofs.Views.{seen-unused}
+use Rattle.slots.specs.Nodes.{unusedKind, nodeSeen, nth, unused}
 use Rattle.slots.specs.Nodes as S
-use Rattle.model.specs.declared.Settings.{Settings}
+use Rattle.slots.proofs.Others.{node-twice, nodes-own, nth-seen}
+use Rattle.model.specs.declared.PoolSettings.{PoolSettings}
 use Rattle.model.specs.Lists.{times, upFrom, All, none, one}
-use Rattle.model.specs.Tree.{Index, slotsOf}
-use Rattle.model.specs.Sound.{Sound, Alone}
-use Rattle.model.proofs.Lists.{by-test, all-both, all-map, hit-same, hit-other}
+use Rattle.model.specs.Tree.{slotsOf}
+use Rattle.model.specs.Sound.{rootFor}
+use Rattle.model.specs.Forest.{Forest, planted, treeOf, SoundForest}
+use Rattle.model.proofs.Lists.{by-test, all-append, all-left, all-right, all-both, all-map, all-of, hit-same, hit-other, times-append}
 use Rattle.model.proofs.Numbers.{ascending-same, length-up, map-up}
-use Rattle.tree.specs.Bridge.{Cell, cells, Stands, Holds, unusedOf, Blank, HoldsIndex}
-use Rattle.tree.specs.Pool.{nodeIn, nodesOf}
-use Rattle.tree.proofs.Few.{slot-inside, slot-outside, slot-low, slots-apart}
-use Rattle.tree.proofs.Cells.{places, cell-places, by-place, Full, full, used-tree}
+use Rattle.tree.specs.Bridge.{Cell, Stands, Holds, unusedOf, HoldsForest}
+use Rattle.tree.specs.Pool.{nodeIn, treeCells, seenCell, forestCells, nodesOf}
+use Rattle.tree.proofs.Cells.{places, cell-places, by-place, Full, full, used-by}
 use Rattle.tree.proofs.Unused.{used-none, unused-one, unused-past, unused-up}
 
--- THE NODE IN A SLOT
+-- THE NODE IN A SLOT, of some cells
 
-abbrev cellsIn : Index → List Cell
-cellsIn x = cells (suc (x .height)) (x .root)
+module _ (n : ℕ) (cs : List Cell) where
+  abbrev nodesFrom : List S.Node
+  nodesFrom = map (nodeIn cs) (upFrom 0 n)
 
-pub length-nodesOf : (n : ℕ) (x : Index) → length (nodesOf n x) ≡ n
-length-nodesOf n x = length-map (upFrom 0 n) (nodeIn (cellsIn x)) ∙ length-up 0 n
+  length-from : length nodesFrom ≡ n
+  length-from = length-map (upFrom 0 n) (nodeIn cs) ∙ length-up 0 n
 
-pub nth-nodesOf : (n : ℕ) (x : Index) (s : ℕ) → s < n → nth (nodesOf n x) s ≡ nodeIn (cellsIn x) s
-nth-nodesOf n x s h =
-    let z : 0 + s ≡ s = omega arith in
-    map-up (nodeIn (cellsIn x)) 0 n s unused h ∙ ap (nodeIn (cellsIn x)) z
+  nth-from : (s : ℕ) → s < n → nth nodesFrom s ≡ nodeIn cs s
+  nth-from s h = let z : 0 + s ≡ s = omega arith in map-up (nodeIn cs) 0 n s unused h ∙ ap (nodeIn cs) z
 
-nth-past : (n : ℕ) (x : Index) (s : ℕ) → n ≤ s → nth (nodesOf n x) s ≡ unused
-nth-past n x s h = List·getD-eq-default (nodesOf n x) unused (omega (arith, length-nodesOf n x))
+  nth-past : (s : ℕ) → n ≤ s → nth nodesFrom s ≡ unused
+  nth-past s h = List·getD-eq-default nodesFrom unused (omega (arith, length-from))
 
 -- what holds of an unused node and of each cell's holds of the node in any slot
-pub node-has : (P : S.Node → Type 0) → P unused → {cs : List Cell} → All (λ c. P (c .node)) cs → (s : ℕ) → P (nodeIn cs s)
+node-has : (P : S.Node → Type 0) → P unused → {cs : List Cell} → All (λ c. P (c .node)) cs → (s : ℕ) → P (nodeIn cs s)
 node-has P u none s = u
 node-has P u (one {x = c} {xs = cs} h hs) s = by-test P (eqb s (c .slot)) (λ e. h) (λ e. node-has P u hs s)
 
-pub nodesOf-have : (P : S.Node → Type 0) → P unused → (n : ℕ) (x : Index) → All (λ c. P (c .node)) (cellsIn x) → (s : ℕ) → P (nth (nodesOf n x) s)
-nodesOf-have P u n x h s = by (decLt s n)
+pub nodesOf-have : (P : S.Node → Type 0) → P unused → (n : ℕ) (f : Forest) → All (λ c. P (c .node)) (forestCells f) → (s : ℕ) → P (nth (nodesOf n f) s)
+nodesOf-have P u n f h s = by (decLt s n)
   where
-    by : Dec (s < n) → P (nth (nodesOf n x) s)
-    by (yes g) = subst P (sym (nth-nodesOf n x s g)) (node-has P u h s)
-    by (no g) = let le : n ≤ s = omega arith in subst P (sym (nth-past n x s le)) u
+    by : Dec (s < n) → P (nth (nodesOf n f) s)
+    by (yes g) = subst P (sym (nth-from n (forestCells f) s g)) (node-has P u h s)
+    by (no g) = let le : n ≤ s = omega arith in subst P (sym (nth-past n (forestCells f) s le)) u
 
 -- a slot of no cell is unused
 node-none : (cs : List Cell) (s : ℕ) → times s (places cs) ≡ 0 → nodeIn cs s ≡ unused
@@ -68,75 +70,133 @@ node-own (c ∷ cs) h =
     later : (d : Cell) → 0 < times (d .slot) (places cs) → nodeIn cs (d .slot) ≡ d .node → nodeIn (c ∷ cs) (d .slot) ≡ d .node
     later d g e = rw (ne-eqb (d .slot) (c .slot) (λ q. omega (arith, h (d .slot), hit-same (d .slot) (c .slot) q))) e
 
--- NODESOF HOLDS A SOUND INDEX
+pub length-nodesOf : (n : ℕ) (f : Forest) → length (nodesOf n f) ≡ n
+length-nodesOf n f = length-from n (forestCells f)
 
-slots-of : (x : Index) (s : ℕ) → times s (places (cellsIn x)) ≡ times s (slotsOf x)
-slots-of x s = ap (times s) (cell-places (suc (x .height)) (x .root))
+-- THE CELLS OF BOTH TREES
 
--- a slot is of no kind exactly if the tree does not take it
-kind-none : (n : ℕ) (x : Index) (s : ℕ) → s < n → times s (slotsOf x) ≡ 0 → nth (nodesOf n x) s .kind ≡ unusedKind
-kind-none n x s h e = ap (λ (n : S.Node). n .kind) (nth-nodesOf n x s h ∙ node-none (cellsIn x) s (slots-of x s ∙ e))
+seen-places : (cs : List Cell) → places (map seenCell cs) ≡ places cs
+seen-places [] = refl
+seen-places (c ∷ cs) = ap (λ (l : List ℕ). c .slot ∷ l) (seen-places cs)
 
-nodesOf-blank : (n : ℕ) (x : Index) → Blank (nodesOf n x)
-nodesOf-blank n x s =
-    nodesOf-have (λ (n : S.Node). n .kind ≡ unusedKind → n ≡ unused) (λ e. refl) n x
-    (all-map (λ (c : Cell) (f : Full c) e. absurd (f e)) (full (suc (x .height)) (x .root))) s
+-- their slots
+forest-places : (f : Forest) (s : ℕ) → times s (places (forestCells f)) ≡ times s (slotsOf (treeOf 0 f)) + times s (slotsOf (treeOf 1 f))
+forest-places f s =
+    let a : List Cell = treeCells (treeOf 0 f) in
+    let b : List Cell = treeCells (treeOf 1 f) in
+    ap (times s) (map-append (λ (c : Cell). c .slot) a (map seenCell b) ∙ ap (places a ++_) (seen-places b)) ∙ times-append s (places a) (places b)
+    ∙ ap (λ (l : List ℕ). times s l + times s (places b)) (cell-places (suc (f .first .height)) (f .first .root))
+    ∙ ap (λ (l : List ℕ). times s (slotsOf (treeOf 0 f)) + times s l) (cell-places (suc (f .second .height)) (f .second .root))
 
--- its tree, whatever is in use elsewhere ..
-module _ (st : Settings) {elsewhere : List ℕ} (x : Index) (sound : Sound st elsewhere x) where
-  nodesOf-tree : Holds (nodesOf (st .nodes) x) (x .height) (x .root)
-  nodesOf-tree =
-      all-both (λ c g e. nth-nodesOf (st .nodes) x (c .slot) (slot-low st x sound (c .slot) (rw (slots-of x (c .slot)) at g)) ∙ e)
-      (by-place (λ (c : Cell). 0 < times (c .slot) (places (cellsIn x))) (cellsIn x) (λ c g. g))
-      (node-own (cellsIn x) (λ s. omega (arith, slots-of x s, slots-apart st x sound s)))
+-- each is in use
+forest-full : (f : Forest) → All Full (forestCells f)
+forest-full f =
+    all-append (full (suc (f .first .height)) (f .first .root))
+    (all-of seenCell (all-map (λ c g e. g (seen-unused 1 (c .node .kind) e)) (full (suc (f .second .height)) (f .second .root))))
 
-  kind-some : (s : ℕ) → 0 < times s (slotsOf x) → nth (nodesOf (st .nodes) x) s .kind ≢ unusedKind
-  kind-some s h = used-tree (nodesOf (st .nodes) x) (x .height) (x .root) nodesOf-tree s h
+-- a cell of the second tree stands where it sees the nodes, and its image where the first does
+stands-seen : (ns : List S.Node) (c : Cell) → Stands (map (nodeSeen 1) ns) c → Stands ns (seenCell c)
+stands-seen ns c e = sym (node-twice 1 (nth ns (c .slot))) ∙ ap (nodeSeen 1) (sym (nth-seen 1 ns (c .slot)) ∙ e)
 
--- .. and its unused slots, where nothing is
-module _ (st : Settings) (x : Index) (sound : Alone st x) where
-  same-unused : (s : ℕ) → times s (unusedOf (nodesOf (st .nodes) x)) ≡ times s (x .unused)
-  same-unused s = by (decLt s (st .nodes)) (decLt 0 (times s (slotsOf x)))
-    where
-      by : Dec (s < st .nodes) → Dec (0 < times s (slotsOf x)) → times s (unusedOf (nodesOf (st .nodes) x)) ≡ times s (x .unused)
-      by (yes h) (yes u) = omega (arith, used-none (nodesOf (st .nodes) x) s (kind-some st x sound s u), slot-inside st x sound s h)
-      by (yes h) (no u) =
-          let z : times s (slotsOf x) ≡ 0 = omega arith in
-          let in-range : s < length (nodesOf (st .nodes) x) = omega (arith, length-nodesOf (st .nodes) x) in
-          omega (arith, unused-one (nodesOf (st .nodes) x) s in-range (kind-none (st .nodes) x s h z), slot-inside st x sound s h)
-      by (no h) u =
-          let le : st .nodes ≤ s = omega arith in
-          let past : length (nodesOf (st .nodes) x) ≤ s = omega (arith, length-nodesOf (st .nodes) x) in
-          omega (arith, unused-past (nodesOf (st .nodes) x) s past, slot-outside st x sound s le)
+stands-back : (ns : List S.Node) (c : Cell) → Stands ns (seenCell c) → Stands (map (nodeSeen 1) ns) c
+stands-back ns c e = nth-seen 1 ns (c .slot) ∙ ap (nodeSeen 1) e ∙ node-twice 1 (c .node)
 
-  pub nodesOf-hold : HoldsIndex (nodesOf (st .nodes) x) x
-  nodesOf-hold =
-      record {
-        tree = nodesOf-tree st x sound;
-        unused = ascending-same (unused-up (nodesOf (st .nodes) x)) (sound .ascending) same-unused;
-        blank = nodesOf-blank (st .nodes) x;
-      }
+all-seen : (ns : List S.Node) (cs : List Cell) → All (Stands ns) (map seenCell cs) → All (Stands (map (nodeSeen 1) ns)) cs
+all-seen ns [] none = none
+all-seen ns (c ∷ cs) (one h hs) = one {x = c} (stands-back ns c h) (all-seen ns cs hs)
 
--- NODES THAT HOLD A SOUND INDEX ARE NODESOF
+-- nodes hold a forest where its cells stand in them
+both-hold : (ns : List S.Node) (f : Forest) → All (Stands ns) (forestCells f) → (i : ℕ) → Holds (map (nodeSeen (rootFor i)) ns) (planted i f .height) (planted i f .root)
+both-hold ns f h zero =
+    subst (λ (ms : List S.Node). Holds ms (f .first .height) (f .first .root)) (sym (nodes-own ns))
+    (all-left (treeCells (treeOf 0 f)) (map seenCell (treeCells (treeOf 1 f))) h)
+both-hold ns f h (suc i) = all-seen ns (treeCells (treeOf 1 f)) (all-right (treeCells (treeOf 0 f)) (map seenCell (treeCells (treeOf 1 f))) h)
 
+cells-stand : (ns : List S.Node) (f : Forest) → ((i : ℕ) → Holds (map (nodeSeen (rootFor i)) ns) (planted i f .height) (planted i f .root)) → All (Stands ns) (forestCells f)
+cells-stand ns f h =
+    all-append (subst (λ (ms : List S.Node). Holds ms (f .first .height) (f .first .root)) (nodes-own ns) (h 0))
+    (all-of seenCell (all-map (stands-seen ns) (h 1)))
+
+-- a node that some cells put into its slot, or that is unused
 node-found : (ns : List S.Node) {cs : List Cell} → All (Stands ns) cs → (s : ℕ) → (times s (places cs) ≡ 0 → nth ns s ≡ unused) → nth ns s ≡ nodeIn cs s
 node-found ns none s f = f refl
 node-found ns (one {x = c} {xs = cs} k ks) s f =
     by-test (λ (n : S.Node). nth ns s ≡ n) (eqb s (c .slot)) (λ e. ap (nth ns) (eqb-true s (c .slot) e) ∙ k)
     (λ e. node-found ns ks s (λ z. f (omega (arith, hit-other s (c .slot) (eqb-false s (c .slot) e)))))
 
-module _ (st : Settings) (x : Index) (ns : List S.Node) (size : length ns ≡ st .nodes) (k : HoldsIndex ns x) (sound : Alone st x) where
-  unheld : (s : ℕ) → s < st .nodes → times s (places (cellsIn x)) ≡ 0 → nth ns s ≡ unused
-  unheld s h e = k .blank s (by (ℕ-discrete (nth ns s .kind) unusedKind))
+-- NODESOF HOLDS A SOUND FOREST
+
+module _ (given : PoolSettings) (f : Forest) (sound : SoundForest given f) where
+  abbrev n : ℕ
+  n = given .nodes
+
+  used : (s : ℕ) → times s (places (forestCells f)) + times s (f .unused) ≡ cond (ltb s n) 1 0
+  used s =
+      omega (arith, forest-places f s, times-append s (slotsOf (treeOf 1 f)) (slotsOf (treeOf 0 f)), sound .trees 0 .once s)
+
+  inside : (s : ℕ) → s < n → times s (places (forestCells f)) + times s (f .unused) ≡ 1
+  inside s h = used s ∙ rw (lt-ltb s n h)
+
+  outside : (s : ℕ) → n ≤ s → times s (places (forestCells f)) + times s (f .unused) ≡ 0
+  outside s h = used s ∙ rw (le-ltb s n h)
+
+  low : (s : ℕ) → 0 < times s (places (forestCells f)) → s < n
+  low s h = by (decLt s n)
     where
-      one-unused : times s (unusedOf ns) ≡ 1
-      one-unused = ap (times s) (k .unused) ∙ omega (arith, slot-inside st x sound s h, slots-of x s)
+      by : Dec (s < n) → s < n
+      by (yes g) = g
+      by (no g) = let le : n ≤ s = omega arith in absurd (omega (arith, outside s le))
 
-      by : Dec (nth ns s .kind ≡ unusedKind) → nth ns s .kind ≡ unusedKind
-      by (yes q) = q
-      by (no q) = absurd (omega (arith, one-unused, used-none ns s q))
+  apart : (s : ℕ) → times s (places (forestCells f)) ≤ 1
+  apart s = by (decLt s n)
+    where
+      by : Dec (s < n) → times s (places (forestCells f)) ≤ 1
+      by (yes g) = omega (arith, inside s g)
+      by (no g) = let le : n ≤ s = omega arith in omega (arith, outside s le)
 
-  pub held-nodesOf : ns ≡ nodesOf (st .nodes) x
-  held-nodesOf =
-      ext-getD unused ns (nodesOf (st .nodes) x) (size ∙ sym (length-nodesOf (st .nodes) x))
-      (λ s h. let g : s < st .nodes = omega arith in node-found ns (k .tree) s (unheld s g) ∙ sym (nth-nodesOf (st .nodes) x s g))
+  nodesOf-stand : All (Stands (nodesOf n f)) (forestCells f)
+  nodesOf-stand =
+      all-both (λ c g e. nth-from n (forestCells f) (c .slot) (low (c .slot) g) ∙ e)
+      (by-place (λ (c : Cell). 0 < times (c .slot) (places (forestCells f))) (forestCells f) (λ c g. g)) (node-own (forestCells f) apart)
+
+  same-unused : (s : ℕ) → times s (unusedOf (nodesOf n f)) ≡ times s (f .unused)
+  same-unused s = by (decLt s n) (decLt 0 (times s (places (forestCells f))))
+    where
+      by : Dec (s < n) → Dec (0 < times s (places (forestCells f))) → times s (unusedOf (nodesOf n f)) ≡ times s (f .unused)
+      by (yes h) (yes u) =
+          omega (arith, used-none (nodesOf n f) s (used-by (nodesOf n f) (forestCells f) (forest-full f) nodesOf-stand s u), inside s h)
+      by (yes h) (no u) =
+          let z : times s (places (forestCells f)) ≡ 0 = omega arith in
+          let kind : nth (nodesOf n f) s .kind ≡ unusedKind = ap (λ (m : S.Node). m .kind) (nth-from n (forestCells f) s h ∙ node-none (forestCells f) s z) in
+          let in-range : s < length (nodesOf n f) = omega (arith, length-nodesOf n f) in
+          omega (arith, unused-one (nodesOf n f) s in-range kind, inside s h)
+      by (no h) u =
+          let le : n ≤ s = omega arith in
+          let past : length (nodesOf n f) ≤ s = omega (arith, length-nodesOf n f) in
+          omega (arith, unused-past (nodesOf n f) s past, outside s le)
+
+  pub nodesOf-hold : HoldsForest (nodesOf n f) f
+  nodesOf-hold =
+      record {
+        trees = both-hold (nodesOf n f) f nodesOf-stand;
+        unused = ascending-same (unused-up (nodesOf n f)) (sound .trees 0 .ascending) same-unused;
+        blank = nodesOf-have (λ (m : S.Node). m .kind ≡ unusedKind → m ≡ unused) (λ e. refl) n f (all-map (λ (c : Cell) (g : Full c) e. absurd (g e)) (forest-full f));
+      }
+
+  -- NODES THAT HOLD IT ARE NODESOF
+
+  module _ (ns : List S.Node) (size : length ns ≡ n) (k : HoldsForest ns f) where
+    unheld : (s : ℕ) → s < n → times s (places (forestCells f)) ≡ 0 → nth ns s ≡ unused
+    unheld s h e = k .blank s (by (ℕ-discrete (nth ns s .kind) unusedKind))
+      where
+        one-unused : times s (unusedOf ns) ≡ 1
+        one-unused = ap (times s) (k .unused) ∙ omega (arith, inside s h)
+
+        by : Dec (nth ns s .kind ≡ unusedKind) → nth ns s .kind ≡ unusedKind
+        by (yes q) = q
+        by (no q) = absurd (omega (arith, one-unused, used-none ns s q))
+
+    pub held-nodesOf : ns ≡ nodesOf n f
+    held-nodesOf =
+        ext-getD unused ns (nodesOf n f) (size ∙ sym (length-nodesOf n f))
+        (λ s h. let g : s < n = omega arith in node-found ns (cells-stand ns f (k .trees)) s (unheld s g) ∙ sym (nth-from n (forestCells f) s g))

@@ -1,8 +1,8 @@
--- Opening a pool: what the tests of the settings tell, the image of a new index, and that the promise leaves one answer. Assumes nothing.
+-- Opening a pool: what the tests of the settings tell, the image of a new forest, and that the promise leaves one answer. Assumes nothing.
 use mathlib.Core.Path.{_≡_, refl, sym, ap, _∙_}
 use mathlib.Core.Bool.{Bool, true, false, true≢false}
 use mathlib.Core.List.{List, [], _∷_, _++_, map}
-use Prim.Native.Nat.{ℕ, zero, suc, _+_, _-_, _*_, _/_, _≤_, _<_}
+use Prim.Native.Nat.{ℕ, zero, suc, _+_, _-_, _*_, _≤_, _<_}
 use native.Mathlib.Omega.{arith}
 use native.Mathlib.Nat.{mul-le-mul}
 use lib.Dec.{leb}
@@ -12,21 +12,19 @@ use Rattle.words.specs.Words.{words, bytesOf}
 use Rattle.words.proofs.Laws.{Bytes, bytesOf-words}
 use Rattle.slots_raw.specs.Slots.{width, headLen}
 use Rattle.slots_pool.specs.Header.{headerOf}
-use Rattle.slots.specs.Nodes.{leafKind, unused}
+use Rattle.slots.specs.Nodes.{nodeSeen, unused}
 use Rattle.slots.specs.Nodes as S
-use Rattle.slots_pool.specs.Image.{image, newNodes}
+use Rattle.slots_pool.specs.Image.{image, emptyLeaf, newNodes}
 use Rattle.model.specs.declared.PoolSettings.{PoolSettings}
 use Rattle.model.specs.Lists.{upFrom}
-use Rattle.model.specs.Tree.{newIndex}
-use Rattle.model.specs.Sound.{handed, InLimits}
+use Rattle.model.specs.Forest.{newForest}
+use Rattle.model.specs.Sound.{limitsFor, rowsFor, handed, InLimits, PoolLimits}
 use Rattle.model.proofs.Layers.{handed-most}
-use Rattle.model.proofs.Calls.{new-sound}
 use Rattle.tree.specs.Bridge.{Cell}
-use Rattle.tree.specs.Pool.{poolLen, nodeIn, nodesOf, imageOf, SoundPool}
-use Rattle.tree.specs.Contracts.{Opened}
+use Rattle.tree.specs.Pool.{poolLen, nodeIn, nodesOf, imageOf}
+use Rattle.tree.specs.Contracts.{LimitsRight, Opened}
 use Rattle.model.specs.Answer.{Tells}
 use Rattle.model.proofs.Answers.{tells-unique}
-use Rattle.tree.proofs.Pools.{image-sound}
 
 -- WHAT A TEST TELLS
 
@@ -37,44 +35,50 @@ pub tells-least : (low n high : ℕ) → n < low → Tells (leb low n) ((low ≤
 tells-least low n high h = record { holds = λ e. absurd (omega (arith, leb-true low n e)); told = λ p. le-leb low n (p .0) }
 
 -- the settings are in limits if each is
-pub tells-limits : (given : PoolSettings) (r : Bool) → (8 ≤ given .nodes) × (given .nodes ≤ 16384) → (4 ≤ given .order) × (given .order ≤ 32)
-    → Tells r ((1 ≤ given .minimum) × (given .minimum ≤ (given .order + 1) / 2)) → Tells r (InLimits (handed given))
-tells-limits given r n o t =
+pub limits-of : (given : PoolSettings) (i : ℕ) → InLimits (handed given i) → LimitsRight (limitsFor given i)
+limits-of given i lim = record { wide = lim .wide; narrow = lim .narrow; some = lim .some; least = lim .least }
+
+in-limits : (given : PoolSettings) (i : ℕ) → (8 ≤ given .nodes) × (given .nodes ≤ 16384) → LimitsRight (limitsFor given i) → InLimits (handed given i)
+in-limits given i n t = record { many = n .0; bounded = n .1; wide = t .wide; narrow = t .narrow; some = t .some; least = t .least }
+
+pub tells-limits : (given : PoolSettings) (r : Bool) → (8 ≤ given .nodes) × (given .nodes ≤ 16384) → LimitsRight (given .first)
+    → Tells r (LimitsRight (given .second)) → Tells r (PoolLimits given)
+tells-limits given r n first t =
     record {
-      holds = λ e. record { many = n .0; bounded = n .1; wide = o .0; narrow = o .1; some = t .holds e .0; least = t .holds e .1 };
-      told = λ lim. t .told (lim .some, lim .least);
+      holds = λ e. (in-limits given 0 n first, in-limits given 1 n (t .holds e));
+      told = λ lim. t .told (limits-of given 1 (lim .1));
     }
 
 -- THE LENGTH of a pool fits a number
 
-pub slots-small : (given : PoolSettings) → InLimits (handed given) → given .nodes * width (handed given .rows) ≤ 3178496
+pub slots-small : (given : PoolSettings) → PoolLimits given → given .nodes * width (rowsFor given) ≤ 3178496
 slots-small given lim =
-    mul-le-mul {n₁ = given .nodes} {m₁ = width (handed given .rows)} {n₂ = 16384} {m₂ = 194} (lim .bounded) (omega (arith, handed-most given lim))
+    mul-le-mul {n₁ = given .nodes} {m₁ = width (rowsFor given)} {n₂ = 16384} {m₂ = 194} (lim .0 .bounded) (omega (arith, handed-most given lim))
 
--- A NEW INDEX: its nodes are an empty leaf, and then unused ones
+-- A NEW FOREST: its nodes are an empty leaf of each tree, and then unused ones
 
-later-unused : (c : Cell) (a n : ℕ) → c .slot < a → map (nodeIn (c ∷ [])) (upFrom a n) ≡ replicate n unused
-later-unused c a zero h = refl
-later-unused c a (suc n) h =
-    let first : nodeIn (c ∷ []) a ≡ unused = rw (ne-eqb a (c .slot) (λ e. omega arith)) in
-    ap (λ (m : S.Node). m ∷ map (nodeIn (c ∷ [])) (upFrom (suc a) n)) first ∙ ap (λ (l : List S.Node). unused ∷ l) (later-unused c (suc a) n (omega arith))
+abbrev newCells : List Cell
+newCells = record { slot = 0; node = emptyLeaf } ∷ record { slot = 1; node = nodeSeen 1 emptyLeaf } ∷ []
 
-pub new-nodes : (n : ℕ) → 0 < n → nodesOf n (newIndex n) ≡ newNodes n
+later-unused : (a n : ℕ) → 1 < a → map (nodeIn newCells) (upFrom a n) ≡ replicate n unused
+later-unused a zero h = refl
+later-unused a (suc n) h =
+    let first : nodeIn newCells a ≡ unused = rw (ne-eqb a 0 (λ e. omega arith), ne-eqb a 1 (λ e. omega arith)) in
+    ap (λ (m : S.Node). m ∷ map (nodeIn newCells) (upFrom (suc a) n)) first ∙ ap (λ (l : List S.Node). unused ∷ l) (later-unused (suc a) n (omega arith))
+
+pub new-nodes : (n : ℕ) → 1 < n → nodesOf n (newForest n) ≡ newNodes n
 new-nodes zero h = absurd (omega arith)
-new-nodes (suc n) h =
-    let e : suc n - 1 ≡ n = omega arith in
-    rw e (ap (λ (l : List S.Node). record { kind = leafKind; rows = [] } ∷ l) (later-unused (record { slot = 0; node = record { kind = leafKind; rows = [] } }) 1 n (omega arith)))
+new-nodes (suc zero) h = absurd (omega arith)
+new-nodes (suc (suc n)) h =
+    let e : suc (suc n) - 2 ≡ n = omega arith in
+    rw e (ap (λ (l : List S.Node). emptyLeaf ∷ nodeSeen 1 emptyLeaf ∷ l) (later-unused 2 n (omega arith)))
 
 -- a pool of these nodes is its image
-pub new-image : (given : PoolSettings) (l : List ℕ) → InLimits (handed given) → length l ≡ poolLen given → Bytes l
-    → words l ≡ headerOf given ++ image (handed given .root) (handed given .rows) (newNodes (given .nodes)) → l ≡ imageOf given (newIndex (given .nodes))
+pub new-image : (given : PoolSettings) (l : List ℕ) → PoolLimits given → length l ≡ poolLen given → Bytes l
+    → words l ≡ headerOf given ++ image 0 (rowsFor given) (newNodes (given .nodes)) → l ≡ imageOf given (newForest (given .nodes))
 new-image given l lim n b e =
-    sym (bytesOf-words (headLen + given .nodes * width (handed given .rows)) l n b) ∙ ap bytesOf e
-    ∙ ap (λ (ns : List S.Node). bytesOf (headerOf given ++ image (handed given .root) (handed given .rows) ns)) (sym (new-nodes (given .nodes) (omega (arith, lim .many))))
-
--- so a pool that was opened is sound
-pub new-pool : (given : PoolSettings) → InLimits (handed given) → SoundPool (imageOf given (newIndex (given .nodes)))
-new-pool given lim = image-sound given (newIndex (given .nodes)) (new-sound given lim)
+    sym (bytesOf-words (headLen + given .nodes * width (rowsFor given)) l n b) ∙ ap bytesOf e
+    ∙ ap (λ (ns : List S.Node). bytesOf (headerOf given ++ image 0 (rowsFor given) ns)) (sym (new-nodes (given .nodes) (omega (arith, lim .0 .many))))
 
 -- THE PROMISE LEAVES ONE ANSWER, and one pool
 

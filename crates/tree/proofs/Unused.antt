@@ -2,7 +2,7 @@
 use mathlib.Core.Path.{_≡_, refl, sym, ap, _∙_}
 use mathlib.Core.Logic.{_≢_}
 use mathlib.Core.Bool.{Bool, true, false, cond}
-use mathlib.Core.List.{List, [], _∷_}
+use mathlib.Core.List.{List, [], _∷_, map}
 use Prim.Native.Nat.{ℕ, zero, suc, _+_, _≤_, _<_}
 use native.Mathlib.Omega.{arith}
 use native.Mathlib.Nat.{not-suc-le-zero, le-of-suc-le-suc}
@@ -10,6 +10,9 @@ use native.Mathlib.Decide.{decLt, ℕ-discrete}
 use lib.Dec.{eqb}
 use lib.ListN.{length, set, List·getD-eq-default}
 use borrow.Author.Tests.{lt-ltb, le-ltb, eq-eqb, ne-eqb}
+use Rattle.slots_raw.specs.Slots.{seen}
+use Rattle.slots_raw.proofs.Views.{seen-unused}
+use Rattle.slots.proofs.Others.{seen-none}
 use Rattle.slots.specs.Nodes.{unusedKind, nth, unused}
 use Rattle.slots.specs.Nodes as S
 use Rattle.slots_find.specs.Contracts.{Lowest}
@@ -149,3 +152,22 @@ set-same a (suc s) (m ∷ ns) n e = rw (set-same (suc a) s ns n e) refl
 
 pub unused-kept : (ns : List S.Node) (s : ℕ) (n : S.Node) → n .kind ≡ nth ns s .kind → unusedOf (set ns s n) ≡ unusedOf ns
 unused-kept ns s n e = set-same 0 s ns n e
+
+-- THEY ARE THE SAME to whoever sees the nodes
+
+seen-kind : (root k : ℕ) → eqb (seen root k) unusedKind ≡ eqb k unusedKind
+seen-kind root k = by (ℕ-discrete k 0)
+  where
+    none : (root : ℕ) → seen root 0 ≡ 0
+    none root = ap (λ (n : S.Node). n .kind) (seen-none root)
+
+    by : Dec (k ≡ 0) → eqb (seen root k) unusedKind ≡ eqb k unusedKind
+    by (yes e) = eq-eqb (seen root k) 0 (ap (seen root) e ∙ none root) ∙ sym (eq-eqb k 0 e)
+    by (no ne) = ne-eqb (seen root k) 0 (λ e. ne (seen-unused root k e)) ∙ sym (ne-eqb k 0 ne)
+
+seen-from : (root s : ℕ) (ns : List S.Node) → unusedFrom s (map (S.nodeSeen root) ns) ≡ unusedFrom s ns
+seen-from root s [] = refl
+seen-from root s (n ∷ ns) = rw (seen-kind root (n .kind), seen-from root (suc s) ns)
+
+pub unused-seen : (root : ℕ) (ns : List S.Node) → unusedOf (map (S.nodeSeen root) ns) ≡ unusedOf ns
+unused-seen root ns = seen-from root 0 ns

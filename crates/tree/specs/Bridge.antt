@@ -12,6 +12,8 @@ use Rattle.model.specs.declared.Totals.{Totals}
 use Rattle.model.specs.declared.Entry.{Entry}
 use Rattle.model.specs.Lists.{concat, times, All}
 use Rattle.model.specs.Tree.{Item, Tree, Index, greatestKey, adds, total, slots}
+use Rattle.model.specs.Sound.{rootFor}
+use Rattle.model.specs.Forest.{Forest, planted}
 
 -- ROWS AND NODES
 
@@ -91,6 +93,12 @@ Blank ns = (s : ℕ) → nth ns s .kind ≡ unusedKind → nth ns s ≡ unused
 pub record HoldsIndex (ns : List S.Node) (x : Index) : Type 0 where
   pub tree : Holds ns (x .height) (x .root)
   pub unused : unusedOf ns ≡ x .unused
+  pub blank : Blank ns
+
+-- the nodes, as the first tree sees them, hold a forest: each tree as it sees them, the unused slots, and nothing in those
+pub record HoldsForest (ns : List S.Node) (f : Forest) : Type 0 where
+  pub trees : (i : ℕ) → Holds (map (S.nodeSeen (rootFor i)) ns) (planted i f .height) (planted i f .root)
+  pub unused : unusedOf ns ≡ f .unused
   pub blank : Blank ns
 
 -- no slot of a tree is taken twice

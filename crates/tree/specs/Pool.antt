@@ -1,4 +1,4 @@
--- The image of an index in a pool's bytes, the index that a pool's bytes hold, and what a sound pool is. Assumes nothing.
+-- The image of a forest in a pool's bytes, the forest that a pool's bytes hold, and what a sound pool is. Assumes nothing.
 use Prim.Native.Nat.{ℕ, zero, suc, _+_, _*_, _≤_}
 use mathlib.Core.Path.{_≡_}
 use mathlib.Core.Bool.{cond}
@@ -8,39 +8,51 @@ use lib.Dec.{eqb}
 use Rattle.words.specs.Words.{words, bytesOf}
 use Rattle.slots_raw.specs.declared.Row.{Row}
 use Rattle.slots_raw.specs.Slots.{width, headLen, rawAt}
-use Rattle.slots_pool.specs.Header.{layoutNumber, layoutOf, settingsOf, headerOf}
-use Rattle.slots.specs.Nodes.{unusedKind, leafKind, interiorKind, nodes, nth, unused, Canon}
+use Rattle.slots_pool.specs.Header.{layoutNumber, layoutOf, settingsOf, headerOf, Reserved}
+use Rattle.slots.specs.Nodes.{unusedKind, leafKind, interiorKind, nodeSeen, nodes, nth, unused, Canon}
 use Rattle.slots.specs.Nodes as S
 use Rattle.slots_pool.specs.Image.{image}
 use Rattle.model.specs.declared.PoolSettings.{PoolSettings}
 use Rattle.model.specs.declared.Settings.{Settings}
 use Rattle.model.specs.Lists.{upFrom, All}
 use Rattle.model.specs.Tree.{Tree, Index, depth, entriesOf, slotsOf, greatestKey, total}
-use Rattle.model.specs.Sound.{handed, InLimits, Whole, Rooted, Sorted, Fits, Once}
+use Rattle.model.specs.Sound.{rowsFor, rootFor, handed, PoolLimits, Whole, Rooted, Sorted, Fits, Once}
+use Rattle.model.specs.Forest.{Forest, plantedOf, treeOf}
 use Rattle.tree.specs.Bridge.{Cell, cells, childOf, childTotals, treeAt, unusedOf}
 
 -- THE EXACT LENGTH of a pool, in bytes
 abbrev pub poolLen : PoolSettings → ℕ
-poolLen given = 8 * (headLen + given .nodes * width (handed given .rows))
+poolLen given = 8 * (headLen + given .nodes * width (rowsFor given))
 
--- THE IMAGE of an index
+-- THE IMAGE of a forest
 
 -- the node that some cells put into slot s
 abbrev pub nodeIn : List Cell → ℕ → S.Node
 nodeIn [] s = unused
 nodeIn (c ∷ cs) s = cond (eqb s (c .slot)) (c .node) (nodeIn cs s)
 
-abbrev pub nodesOf : ℕ → Index → List S.Node
-nodesOf n x = map (nodeIn (cells (suc (x .height)) (x .root))) (upFrom 0 n)
+-- every node of a tree, with its slot
+abbrev pub treeCells : Index → List Cell
+treeCells x = cells (suc (x .height)) (x .root)
+
+-- of both trees, as the first one sees them
+abbrev pub seenCell : Cell → Cell
+seenCell c = record { slot = c .slot; node = nodeSeen 1 (c .node) }
+
+abbrev pub forestCells : Forest → List Cell
+forestCells f = treeCells (treeOf 0 f) ++ map seenCell (treeCells (treeOf 1 f))
+
+abbrev pub nodesOf : ℕ → Forest → List S.Node
+nodesOf n f = map (nodeIn (forestCells f)) (upFrom 0 n)
 
 -- the words of its pool, header and nodes; and the bytes
-abbrev pub wordsOf : PoolSettings → Index → List ℕ
-wordsOf given x = headerOf given ++ image (handed given .root) (handed given .rows) (nodesOf (given .nodes) x)
+abbrev pub wordsOf : PoolSettings → Forest → List ℕ
+wordsOf given f = headerOf given ++ image 0 (rowsFor given) (nodesOf (given .nodes) f)
 
-abbrev pub imageOf : PoolSettings → Index → List ℕ
-imageOf given x = bytesOf (wordsOf given x)
+abbrev pub imageOf : PoolSettings → Forest → List ℕ
+imageOf given f = bytesOf (wordsOf given f)
 
--- THE INDEX that a pool holds
+-- THE FOREST that a pool holds
 
 abbrev pub firstChild : List Row → ℕ
 firstChild [] = 0
@@ -55,18 +67,23 @@ heightAt ns (suc most) s = cond (eqb (nth ns s .kind) interiorKind) (suc (height
 abbrev pub indexIn : ℕ → List S.Node → Index
 indexIn root ns = record { height = heightAt ns 8 root; root = treeAt ns (heightAt ns 8 root) root; unused = unusedOf ns }
 
--- the settings that it was opened with, and those that the layers are handed
+-- the settings that it was opened with, and those that the layers are handed of tree i
 abbrev pub givenIn : List ℕ → PoolSettings
 givenIn l = settingsOf (words l)
 
-abbrev pub settingsIn : List ℕ → Settings
-settingsIn l = handed (givenIn l)
+abbrev pub settingsIn : List ℕ → ℕ → Settings
+settingsIn l i = handed (givenIn l) i
 
-abbrev pub nodesIn : List ℕ → List S.Node
-nodesIn l = nodes (settingsIn l) (words l)
+-- its nodes as tree i sees them
+abbrev pub nodesIn : List ℕ → ℕ → List S.Node
+nodesIn l i = nodes (settingsIn l i) (words l)
 
-abbrev pub indexOf : List ℕ → Index
-indexOf l = indexIn (settingsIn l .root) (nodesIn l)
+-- tree i
+abbrev pub indexOf : List ℕ → ℕ → Index
+indexOf l i = indexIn (rootFor i) (nodesIn l i)
+
+abbrev pub forestOf : List ℕ → Forest
+forestOf l = record { first = plantedOf (indexOf l 0); second = plantedOf (indexOf l 1); unused = unusedOf (nodesIn l 0) }
 
 -- A SOUND POOL: document 01's list, in its order
 
@@ -91,10 +108,8 @@ pub record Zeros (st : Settings) (W : List ℕ) (s : ℕ) : Type 0 where
   pub tail : Canon (st .rows) (rawAt st W s)
   pub whole : nth (nodes st W) s .kind ≡ unusedKind → nth (nodes st W) s ≡ unused
 
--- of the nodes ns of a pool with the settings st, where Right says what totals are right in an interior's row, for the child that it names
-pub record SoundNodesBy (Right : (h : ℕ) → Row → Tree h → Type 0) (st : Settings) (ns : List S.Node) : Type 0 where
-  -- each node in use is reached once from the root's slot, and no unused one is
-  pub once : Once (st .nodes) (slotsOf (indexIn (st .root) ns)) (unusedOf ns)
+-- of a tree with the settings st, whose nodes, as it sees them, are ns
+pub record SoundNodes (st : Settings) (ns : List S.Node) : Type 0 where
   -- leaves share one depth, at most 8
   pub kinds : Kinds ns (indexIn (st .root) ns .height) (st .root)
   pub shallow : depth (indexIn (st .root) ns) ≤ 8
@@ -107,21 +122,17 @@ pub record SoundNodesBy (Right : (h : ℕ) → Row → Tree h → Type 0) (st : 
   -- each separator is its child's greatest key
   pub separators : EachChild Separates ns (indexIn (st .root) ns .height) (st .root)
   -- stored totals are right
-  pub totals : EachChild Right ns (indexIn (st .root) ns .height) (st .root)
+  pub totals : EachChild Totalled ns (indexIn (st .root) ns .height) (st .root)
 
--- of its bytes
-pub record SoundPoolBy (Right : (h : ℕ) → Row → Tree h → Type 0) (l : List ℕ) : Type 0 where
+-- of a pool's bytes
+pub record SoundPool (l : List ℕ) : Type 0 where
   pub layout : layoutOf (words l) ≡ layoutNumber
+  pub reserved : Reserved (words l)
   -- the settings are in limits, and the length is exact
-  pub settings : InLimits (settingsIn l)
+  pub settings : PoolLimits (givenIn l)
   pub exact : length l ≡ poolLen (givenIn l)
-  pub nodes : SoundNodesBy Right (settingsIn l) (nodesIn l)
+  -- each node in use is reached once from one root, and no unused one is
+  pub once : Once (givenIn l .nodes) (slotsOf (indexOf l 0) ++ slotsOf (indexOf l 1)) (unusedOf (nodesIn l 0))
+  pub trees : (i : ℕ) → SoundNodes (settingsIn l i) (nodesIn l i)
   -- unused slots, and what is past a node's rows, are all zero
-  pub zeros : (s : ℕ) → Zeros (settingsIn l) (words l) s
-
--- the totals are those of the child's tree
-abbrev pub SoundNodes : Settings → List S.Node → Type 0
-SoundNodes = SoundNodesBy Totalled
-
-abbrev pub SoundPool : List ℕ → Type 0
-SoundPool = SoundPoolBy Totalled
+  pub zeros : (s : ℕ) → Zeros (settingsIn l 0) (words l) s

@@ -3,10 +3,11 @@
 ghost use mathlib.Core.Path.{_≡_};
 ghost use Prim.Native.Nat.{_≤_};
 ghost use Rattle.model.specs.Answer.{Tells};
-ghost use Rattle.model.specs.Sound.{handed, InLimits};
+ghost use Rattle.model.specs.Sound.{PoolLimits};
 ghost use Rattle.tree.specs.Bridge.{kindFor};
 ghost use Rattle.tree.specs.Pool.{poolLen};
-ghost use Rattle.tree.specs.Contracts.{Opened};
+ghost use Rattle.tree.specs.Contracts.{LimitsRight, Opened};
+use model::Limits;
 use model::PoolSettings;
 use slots::INTERIOR;
 use slots::LEAF;
@@ -22,15 +23,25 @@ pub fn kind_for(height: usize) -> u64
 
 // Whether a pool can have these settings.
 pub fn in_limits(given: PoolSettings) -> bool
-    ensures { λ r. ⌜ Tells r (InLimits (handed given)) ⌝ }
+    ensures { λ r. ⌜ Tells r (PoolLimits given) ⌝ }
 {
     if !within(8, given.nodes, 16384) {
         return false;
     }
-    if !within(4, given.order, 32) {
+    if !limits_right(given.first) {
         return false;
     }
-    within(1, given.minimum, (given.order + 1) / 2)
+    limits_right(given.second)
+}
+
+// Whether a tree can have these limits.
+fn limits_right(limits: Limits) -> bool
+    ensures { λ r. ⌜ Tells r (LimitsRight limits) ⌝ }
+{
+    if !within(4, limits.order, 32) {
+        return false;
+    }
+    within(1, limits.minimum, (limits.order + 1) / 2)
 }
 
 // Whether `n` is `low` to `high`.
@@ -42,14 +53,14 @@ fn within(low: usize, n: usize, high: usize) -> bool
 
 // The exact length of a pool, in bytes.
 pub fn pool_len(given: PoolSettings) -> usize
-    requires { ⌜ InLimits (handed given) ⌝ }
+    requires { ⌜ PoolLimits given ⌝ }
     ensures { λ r. ⌜ r ≡ poolLen given ⌝ }
 {
-    let st = model_code::handed(given);
+    let st = model_code::handed(given, 0);
     8 * (HEADER + given.nodes * width(st))
 }
 
-// Makes the pool one empty leaf, whatever it held, if the settings are in limits and its length is exact.
+// Makes the pool two empty leaves, whatever it held, if the settings are in limits and its length is exact.
 pub fn open(pool: &mut [u8], given: PoolSettings) -> bool
     ensures { λ r. ⌜ Opened given (now (pool .entry)) r (now (pool .exit)) ⌝ }
 {

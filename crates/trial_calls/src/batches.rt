@@ -1,4 +1,4 @@
-// Kinds 3 to 6: batches.
+// Kinds 3 to 6: batches on one tree. The arguments are those behind the tree's number.
 use index_promise::BatchAnswer;
 use model::Action;
 use model::Expectation;
@@ -16,35 +16,40 @@ use trial_lines::told::amiss;
 use trial_lines::told::check;
 use trial_lines::told::checked;
 
-pub fn set(pool: &mut [u8], args: &[u64]) -> Told {
-    plain(pool, list(args, 2), Operation::Set(reference(args, 0)))
+pub fn set(pool: &mut [u8], tree: usize, args: &[u64]) -> Told {
+    plain(
+        pool,
+        tree,
+        list(args, 2),
+        Operation::Set(reference(args, 0)),
+    )
 }
 
-pub fn remove(pool: &mut [u8], args: &[u64]) -> Told {
-    plain(pool, list(args, 0), Operation::Remove)
+pub fn remove(pool: &mut [u8], tree: usize, args: &[u64]) -> Told {
+    plain(pool, tree, list(args, 0), Operation::Remove)
 }
 
-pub fn compare(pool: &mut [u8], args: &[u64]) -> Told {
+pub fn compare(pool: &mut [u8], tree: usize, args: &[u64]) -> Told {
     let op = Operation::Compare(expectation(args), action(args));
-    plain(pool, list(args, 6), op)
+    plain(pool, tree, list(args, 6), op)
 }
 
 // A batch that has no list but its keys.
-fn plain(pool: &mut [u8], keys: &[u64], op: Operation) -> Told {
+fn plain(pool: &mut [u8], tree: usize, keys: &[u64], op: Operation) -> Told {
     let places = [0u64; 1];
     let sizes = [0u32; 1];
-    let a = index::batch(pool, keys, &places, &sizes, op);
+    let a = index::batch(pool, tree, keys, &places, &sizes, op);
     counted(pool, a)
 }
 
 // The arguments are three lists.
-pub fn set_each(pool: &mut [u8], args: &[u64]) -> Told {
+pub fn set_each(pool: &mut [u8], tree: usize, args: &[u64]) -> Told {
     let keys = list(args, 0);
     let places = list(args, second(args));
     let numbers = list(args, third(args));
     let mut sizes = [0u32; 64];
     narrow(numbers, &mut sizes);
-    set_to(pool, keys, places, &sizes, numbers.len())
+    set_to(pool, tree, keys, places, &sizes, numbers.len())
 }
 
 fn narrow(numbers: &[u64], sizes: &mut [u32]) {
@@ -54,11 +59,18 @@ fn narrow(numbers: &[u64], sizes: &mut [u32]) {
 }
 
 // So many of the sizes are lent.
-fn set_to(pool: &mut [u8], keys: &[u64], places: &[u64], sizes: &[u32], n: usize) -> Told {
+fn set_to(
+    pool: &mut [u8],
+    tree: usize,
+    keys: &[u64],
+    places: &[u64],
+    sizes: &[u32],
+    n: usize,
+) -> Told {
     if n > sizes.len() {
         return amiss();
     }
-    let a = index::batch(pool, keys, places, &sizes[..n], Operation::SetEach);
+    let a = index::batch(pool, tree, keys, places, &sizes[..n], Operation::SetEach);
     counted(pool, a)
 }
 

@@ -4,9 +4,12 @@ mod packs; // kind 14
 
 use index_promise::OpenAnswer;
 use index_promise::TotalsAnswer;
+use model::Limits;
 use model::PoolSettings;
 use trial::at;
+use trial::plus;
 use trial::put_word;
+use trial_lines::form::behind_tree;
 use trial_lines::form::formed;
 use trial_lines::line::list;
 use trial_lines::pools::Pools;
@@ -45,16 +48,23 @@ fn lend(pool: &mut [u8], lent: usize, kind: u64, args: &[u64]) -> Told {
 fn call(pool: &mut [u8], kind: u64, args: &[u64]) -> Told {
     match kind {
         1 => open(pool, args),
-        2 => totals(pool),
-        3 => batches::set(pool, args),
-        4 => batches::set_each(pool, args),
-        5 => batches::remove(pool, args),
-        6 => batches::compare(pool, args),
-        7 => trial_looks::look(pool, kind, args, at(args, 0)),
-        8 => trial_looks::look(pool, kind, args, at(args, 8)),
-        9 => trial_looks::look(pool, kind, args, at(args, 1)),
         10 => trial_frames::read(list(args, 0)),
-        _ => damage(pool, args),
+        11 => damage(pool, args),
+        _ => call_on(pool, at(args, 0) as usize, kind, behind_tree(args)),
+    }
+}
+
+// A call on one tree, with the arguments behind its number.
+fn call_on(pool: &mut [u8], tree: usize, kind: u64, args: &[u64]) -> Told {
+    match kind {
+        2 => totals(pool, tree),
+        3 => batches::set(pool, tree, args),
+        4 => batches::set_each(pool, tree, args),
+        5 => batches::remove(pool, tree, args),
+        6 => batches::compare(pool, tree, args),
+        7 => trial_looks::look(pool, tree, kind, args, at(args, 0)),
+        8 => trial_looks::look(pool, tree, kind, args, at(args, 8)),
+        _ => trial_looks::look(pool, tree, kind, args, at(args, 1)),
     }
 }
 
@@ -62,12 +72,20 @@ fn open(pool: &mut [u8], args: &[u64]) -> Told {
     fill(pool);
     let given = PoolSettings {
         nodes: at(args, 0) as usize,
-        order: at(args, 1) as usize,
-        minimum: at(args, 2) as usize,
+        first: limits(args, 1),
+        second: limits(args, 3),
     };
     match index::open(pool, given) {
         OpenAnswer::Done => checked(pool, 0),
         OpenAnswer::Refused(n) => checked(pool, n),
+    }
+}
+
+// An order, and a minimum behind it.
+fn limits(args: &[u64], i: usize) -> Limits {
+    Limits {
+        order: at(args, i) as usize,
+        minimum: at(args, plus(i, 1)) as usize,
     }
 }
 
@@ -78,8 +96,8 @@ fn fill(pool: &mut [u8]) {
     }
 }
 
-fn totals(pool: &[u8]) -> Told {
-    match index::totals(pool) {
+fn totals(pool: &[u8], tree: usize) -> Told {
+    match index::totals(pool, tree) {
         TotalsAnswer::Done(t) => Told {
             n: 4,
             of: [0, t.live as u64, t.dead as u64, t.size, 0, 0],

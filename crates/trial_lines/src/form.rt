@@ -2,15 +2,15 @@
 //
 // | kind | arguments | answers when done |
 // |---|---|---|
-// | 1 open | nodes, order, minimum, bytes lent | check of the pool |
-// | 2 totals | | live, dead, size |
-// | 3 set | place, size, keys | four counts, check of the pool |
-// | 4 set each | keys, places, sizes | four counts, check of the pool |
-// | 5 remove | keys | four counts, check of the pool |
-// | 6 compare | holds, expected place and size, set, place and size, keys | four counts, check of the pool |
-// | 7 get | bytes of room, keys | written, more, check of the output written |
-// | 8 scan | start: bounded, included, key; end: the same; down, least, bytes of room | written, more, opened, check of the output |
-// | 9 frame | i, bytes of room | length, check of the line |
+// | 1 open | nodes, order and minimum of tree 0, order and minimum of tree 1, bytes lent | check of the pool |
+// | 2 totals | tree | live, dead, size |
+// | 3 set | tree, place, size, keys | four counts, check of the pool |
+// | 4 set each | tree, keys, places, sizes | four counts, check of the pool |
+// | 5 remove | tree, keys | four counts, check of the pool |
+// | 6 compare | tree, holds, expected place and size, set, place and size, keys | four counts, check of the pool |
+// | 7 get | tree, bytes of room, keys | written, more, check of the output written |
+// | 8 scan | tree; start: bounded, included, key; end: the same; down, least, bytes of room | written, more, opened, check of the output |
+// | 9 frame | tree, i, bytes of room | length, check of the line |
 // | 10 read frame | bytes of the line | kind, count, check of its entries |
 // | 11 put | word, value: the pool is damaged, or written by hand | check of the pool |
 // | 12 case | n: what follows is numbered case n | none, not even 0: it is no call |
@@ -33,7 +33,18 @@ const SIZES: u64 = 0x1_0000_0000;
 pub fn formed(kind: u64, args: &[u64]) -> bool {
     let n = args.len();
     match kind {
-        1 => n == 4,
+        1 => n == 6,
+        10 => ends(args, 0) && below(list(args, 0), 256),
+        11 => n == 2,
+        14 => n == 0,
+        _ => n > 0 && formed_behind(kind, behind_tree(args)),
+    }
+}
+
+// Whether a call of this kind, which names a tree first, has such arguments behind it.
+fn formed_behind(kind: u64, args: &[u64]) -> bool {
+    let n = args.len();
+    match kind {
         2 => n == 0,
         3 => ends(args, 2) && at(args, 1) < SIZES,
         4 => ends(args, third(args)) && below(list(args, third(args)), SIZES),
@@ -42,11 +53,16 @@ pub fn formed(kind: u64, args: &[u64]) -> bool {
         7 => ends(args, 1),
         8 => n == 9 && at(args, 7) < SIZES,
         9 => n == 2,
-        10 => ends(args, 0) && below(list(args, 0), 256),
-        11 => n == 2,
-        14 => n == 0,
         _ => false,
     }
+}
+
+// The arguments of a call on one tree, behind the number of the tree.
+pub fn behind_tree(args: &[u64]) -> &[u64] {
+    if args.len() == 0 {
+        return args;
+    }
+    &args[1..]
 }
 
 // The arguments end where the list at i does.

@@ -36,7 +36,7 @@ pub fn turn(p: Pools) -> Pools {
 pub fn lend(p: Pools, kind: u64, args: &[u64]) -> Pools {
     let mut r = p;
     if kind == 1 {
-        r.lent = at(args, 3) as usize;
+        r.lent = at(args, 5) as usize;
     }
     r
 }

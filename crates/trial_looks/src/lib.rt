@@ -1,4 +1,5 @@
-// Kinds 7 to 9 of the lines: calls with an output. Past what they write it must stay as it was. `index` passes these calls on as they are.
+// Kinds 7 to 9 of the lines: calls on one tree with an output. Past what they write it must stay as it was. `index` passes these calls on as
+// they are.
 use frame_text::WriteAnswer;
 use index_promise::GetAnswer;
 use index_promise::ScanAnswer;
@@ -19,25 +20,25 @@ use trial_lines::told::refused;
 // What an output is filled with before a call.
 const FRESH: u8 = 170;
 
-// Lends so many bytes of room.
-pub fn look(pool: &[u8], kind: u64, args: &[u64], room: u64) -> Told {
+// Lends so many bytes of room. The arguments are those behind the tree's number.
+pub fn look(pool: &[u8], tree: usize, kind: u64, args: &[u64], room: u64) -> Told {
     let mut out = [FRESH; 4096];
     if room > 4096 {
         return amiss();
     }
-    look_into(pool, kind, args, &mut out[..room as usize])
+    look_into(pool, tree, kind, args, &mut out[..room as usize])
 }
 
-fn look_into(pool: &[u8], kind: u64, args: &[u64], out: &mut [u8]) -> Told {
+fn look_into(pool: &[u8], tree: usize, kind: u64, args: &[u64], out: &mut [u8]) -> Told {
     match kind {
-        7 => get(pool, args, out),
-        8 => scan(pool, args, out),
-        _ => frame(pool, args, out),
+        7 => get(pool, tree, args, out),
+        8 => scan(pool, tree, args, out),
+        _ => frame(pool, tree, args, out),
     }
 }
 
-fn get(pool: &[u8], args: &[u64], out: &mut [u8]) -> Told {
-    match index_look::get(pool, list(args, 1), out) {
+fn get(pool: &[u8], tree: usize, args: &[u64], out: &mut [u8]) -> Told {
+    match index_look::get(pool, tree, list(args, 1), out) {
         GetAnswer::Done(g) => {
             let n = times(24, g.written);
             let t = Told {
@@ -57,10 +58,10 @@ fn get(pool: &[u8], args: &[u64], out: &mut [u8]) -> Told {
     }
 }
 
-fn scan(pool: &[u8], args: &[u64], out: &mut [u8]) -> Told {
+fn scan(pool: &[u8], tree: usize, args: &[u64], out: &mut [u8]) -> Told {
     let start = bound(args, 0);
     let end = bound(args, 3);
-    match index_look::scan(pool, start, end, direction(args), sift(args), out) {
+    match index_look::scan(pool, tree, start, end, direction(args), sift(args), out) {
         ScanAnswer::Done(s) => {
             let n = times(24, s.written);
             let t = Told {
@@ -110,8 +111,8 @@ fn sift(args: &[u64]) -> Sift {
     }
 }
 
-fn frame(pool: &[u8], args: &[u64], out: &mut [u8]) -> Told {
-    match index_look::frame(pool, at(args, 0) as usize, out) {
+fn frame(pool: &[u8], tree: usize, args: &[u64], out: &mut [u8]) -> Told {
+    match index_look::frame(pool, tree, at(args, 0) as usize, out) {
         WriteAnswer::Done(n) => {
             let t = Told {
                 n: 3,

@@ -8,7 +8,8 @@
 // The third variant agreed on each call that was done on a sound pool. A refusal's number, the bytes of a pool, and what is read from a
 // frame are of the plain rules alone.
 //
-// A line is one call, in decimal numbers: its kind, how many arguments, the arguments, how many answers, the answers. There are two pools.
+// A line is one call, in decimal numbers: its kind, how many arguments, the arguments, how many answers, the answers. A call on one tree has the
+// tree's number as its first argument. There are two pools.
 // All calls are done on the one at hand, which each opening makes anew; kind 14 packs it into the other one, and kind 15, which is no call,
 // turns the two round. A line that cannot be read counts as answered otherwise. Behind the sampled calls stand packings of worn pools, then
 // the cases and the readings; what each of these wants is written out in oracle/src/cases.rs.
@@ -35,7 +36,7 @@ use trial_lines::tally::count;
 use trial_lines::tally::report;
 use trial_lines::told::same;
 
-// The longest pool of the list has 62,120 bytes.
+// The longest pool of the list has 62,152 bytes.
 type Pool = [u8; 65536];
 
 // What is kept between two bytes of the list: which pool is at hand and how long both are, how many lines have ended, what is known of the

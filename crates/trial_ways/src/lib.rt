@@ -4,18 +4,19 @@ use index_promise::TotalsAnswer;
 use trial::put_word;
 use trial::tell;
 use trial::word;
+use trial_rules::Shape;
 use trial_rules::allows;
 use trial_rules::allows_both;
 
 // How a word is damaged.
-const WAYS: u64 = 8;
+const WAYS: u64 = 10;
 
 // The last way exchanges the word and the next one.
-const EXCHANGE: u64 = 7;
+const EXCHANGE: u64 = 9;
 
-// Whether the library takes the pool for sound.
-pub fn sound(pool: &[u8]) -> bool {
-    match index_look::totals(pool) {
+// Whether the library takes the pool for sound, where it is asked for the totals of this tree.
+pub fn sound(pool: &[u8], tree: usize) -> bool {
+    match index_look::totals(pool, tree) {
         TotalsAnswer::Done(_) => true,
         TotalsAnswer::Refused(_) => false,
     }
@@ -31,7 +32,7 @@ pub struct Tally {
 }
 
 // All words, one after the other.
-pub fn damage(pool: &mut [u8], nodes: usize, order: usize) -> Tally {
+pub fn damage(pool: &mut [u8], of: Shape) -> Tally {
     let n = pool.len() / 8;
     let mut t = Tally {
         idle: 0,
@@ -40,7 +41,7 @@ pub fn damage(pool: &mut [u8], nodes: usize, order: usize) -> Tally {
         wrong: 0,
     };
     for i in 0..n {
-        t = damage_word(pool, nodes, order, i, t);
+        t = damage_word(pool, of, i, t);
     }
     t
 }
@@ -53,30 +54,35 @@ pub fn report(words: usize, t: Tally) {
     tell(b"; not as expected ", t.wrong);
 }
 
-fn damage_word(pool: &mut [u8], nodes: usize, order: usize, i: usize, before: Tally) -> Tally {
+fn damage_word(pool: &mut [u8], of: Shape, i: usize, before: Tally) -> Tally {
     let mut t = before;
     for way in 0..WAYS {
-        t = damage_once(pool, nodes, order, i, way, t);
+        t = damage_once(pool, of, i, way, t);
     }
     t
 }
 
 // One damage, asked of and put right.
-fn damage_once(pool: &mut [u8], nodes: usize, order: usize, i: usize, way: u64, t: Tally) -> Tally {
+fn damage_once(pool: &mut [u8], of: Shape, i: usize, way: u64, t: Tally) -> Tally {
     let was = word(pool, i);
     if way == EXCHANGE {
-        return exchange(pool, nodes, order, i, was, t);
+        return exchange(pool, of, i, was, t);
     }
     let v = damaged(was, way);
-    let expected = allows(pool, nodes, order, i, was, v);
+    let expected = allows(pool, of, i, was, v);
     put_word(pool, i, v);
-    let found = sound(pool);
+    let found = sound(pool, asked(way));
     put_word(pool, i, was);
     counted(t, was == v, found, expected, Place { i, way })
 }
 
+// The pool is asked for one tree and the other in turn.
+fn asked(way: u64) -> usize {
+    (way % 2) as usize
+}
+
 // A word and the next are exchanged.
-fn exchange(pool: &mut [u8], nodes: usize, order: usize, i: usize, was: u64, t: Tally) -> Tally {
+fn exchange(pool: &mut [u8], of: Shape, i: usize, was: u64, t: Tally) -> Tally {
     let n = pool.len() / 8;
     if n < 2 {
         return t;
@@ -85,10 +91,10 @@ fn exchange(pool: &mut [u8], nodes: usize, order: usize, i: usize, was: u64, t: 
         return t;
     }
     let v = word(pool, i + 1);
-    let expected = allows_both(pool, nodes, order, i, was, v);
+    let expected = allows_both(pool, of, i, was, v);
     put_word(pool, i, v);
     put_word(pool, i + 1, was);
-    let found = sound(pool);
+    let found = sound(pool, asked(EXCHANGE));
     put_word(pool, i, was);
     put_word(pool, i + 1, v);
     counted(t, was == v, found, expected, Place { i, way: EXCHANGE })
@@ -129,15 +135,18 @@ fn more(n: u64) -> u64 {
     std::num::wrapping_add_u64(n, 1)
 }
 
-// The ways, but for the exchange. The fifth and sixth move a number of live entries and a child's slot by one.
+// The ways, but for the exchange. Two more or two less make a kind that of the other tree; the last two move a number of live entries and a
+// child's slot by one.
 fn damaged(w: u64, way: u64) -> u64 {
     match way {
         0 => std::num::wrapping_add_u64(w, 1),
         1 => std::num::wrapping_sub_u64(w, 1),
-        2 => 0,
-        3 => u64::MAX,
-        4 => w ^ 0x8000_0000_0000_0000,
-        5 => w ^ 0x10_0000,
+        2 => std::num::wrapping_add_u64(w, 2),
+        3 => std::num::wrapping_sub_u64(w, 2),
+        4 => 0,
+        5 => u64::MAX,
+        6 => w ^ 0x8000_0000_0000_0000,
+        7 => w ^ 0x10_0000,
         _ => w ^ 0x100_0000_0000,
     }
 }

@@ -1,5 +1,5 @@
 //! Frames: the nodes of a tree in preorder, as bytes and as lines of hexadecimal, and what writing one refuses.
-use crate::tree::{Index, Items, Node};
+use crate::tree::{Items, Node};
 use crate::{Entry, Totals};
 
 #[derive(Clone, Copy, Debug, PartialEq, Eq)]
@@ -78,9 +78,9 @@ fn frames_from(n: &Node, out: &mut Vec<Frame>) -> (u64, Totals) {
     (n.greatest_key(), n.totals())
 }
 
-pub fn frames_of(x: &Index) -> Vec<Frame> {
+pub fn frames_of(root: &Node) -> Vec<Frame> {
     let mut out = vec![];
-    frames_from(&x.root, &mut out);
+    frames_from(root, &mut out);
     out
 }
 
@@ -104,9 +104,9 @@ pub fn fitted(room: usize, line: Vec<u8>) -> Result<Vec<u8>, u32> {
     }
 }
 
-/// The i-th frame of an index.
-pub fn write_node(i: u64, room: usize, x: &Index) -> Result<Vec<u8>, u32> {
-    let frames = frames_of(x);
+/// The i-th frame of a tree.
+pub fn write_node(i: u64, room: usize, root: &Node) -> Result<Vec<u8>, u32> {
+    let frames = frames_of(root);
     match usize::try_from(i).ok().and_then(|i| frames.get(i)) {
         None => Err(14),
         Some(f) => fitted(room, f.line()),

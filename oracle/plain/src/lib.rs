@@ -1,6 +1,7 @@
 //! Document 01, and what document 02 adds to it, in plain Rust: one file to an idea, after the definitions of crates/model/specs of the same
 //! names. `pool` and `sound` say what they become in bytes (docs/POOL.md).
 pub mod change;
+pub mod forest;
 pub mod frame;
 pub mod list;
 pub mod look;

@@ -1,5 +1,5 @@
 //! What multi-get and scan list, and which nodes a scan opens.
-use crate::tree::{Index, Items, Node};
+use crate::tree::{Items, Node};
 use crate::{Bound, Entry, Listing, Request, Scanned};
 
 fn listing(room: usize, mut due: Vec<Entry>) -> Listing {
@@ -9,8 +9,8 @@ fn listing(room: usize, mut due: Vec<Entry>) -> Listing {
 }
 
 /// One entry for each key that is present, dead ones too, equal keys each time.
-pub fn get_all(keys: &[u64], room: usize, x: &Index) -> Listing {
-    let es = x.entries();
+pub fn get_all(keys: &[u64], room: usize, root: &Node) -> Listing {
+    let es = root.entries();
     let found = keys.iter().filter_map(|k| es.binary_search_by_key(k, |e| e.key).ok().map(|i| es[i])).collect();
     listing(room, found)
 }
@@ -82,8 +82,8 @@ fn count_to(mut room: usize, nodes: &[usize]) -> u64 {
     opened
 }
 
-pub fn scan(q: &Request, room: usize, x: &Index) -> Scanned {
+pub fn scan(q: &Request, room: usize, root: &Node) -> Scanned {
     let mut opened = vec![];
-    openings(q, &x.root, &mut opened);
-    Scanned { listed: listing(room, due_in(q, &x.entries())), opened: count_to(room, &opened) }
+    openings(q, root, &mut opened);
+    Scanned { listed: listing(room, due_in(q, &root.entries())), opened: count_to(room, &opened) }
 }

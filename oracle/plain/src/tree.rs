@@ -1,4 +1,5 @@
-//! Nodes of any level with their separators and totals, which are worked out and not stored; and the index, a tree with unused slots.
+//! Nodes of any level with their separators and totals, which are worked out and not stored; and the index, a tree with the unused slots of
+//! its pool.
 use crate::{Entry, Totals};
 
 #[derive(Clone, Debug, PartialEq, Eq)]
@@ -16,7 +17,7 @@ pub enum Items {
 #[derive(Clone, Debug, PartialEq, Eq)]
 pub struct Index {
     pub root: Node,
-    /// Ascending, so that the lowest is the first.
+    /// Of the whole pool; ascending, so that the lowest is the first.
     pub unused: Vec<usize>,
 }
 
@@ -85,10 +86,15 @@ impl Node {
             Items::Nodes(v) => 1 + v.first().map_or(0, |n| n.depth()),
         }
     }
-    pub fn entries(&self, out: &mut Vec<Entry>) {
+    pub fn entries(&self) -> Vec<Entry> {
+        let mut out = vec![];
+        self.add_entries(&mut out);
+        out
+    }
+    fn add_entries(&self, out: &mut Vec<Entry>) {
         match &self.items {
             Items::Entries(v) => out.extend(v),
-            Items::Nodes(v) => v.iter().for_each(|n| n.entries(out)),
+            Items::Nodes(v) => v.iter().for_each(|n| n.add_entries(out)),
         }
     }
     /// Number of nodes.
@@ -96,13 +102,6 @@ impl Node {
         match &self.items {
             Items::Entries(_) => 1,
             Items::Nodes(v) => 1 + v.iter().map(|n| n.nodes()).sum::<usize>(),
-        }
-    }
-    /// The keys of each leaf.
-    pub fn leaves(&self, out: &mut Vec<Vec<u64>>) {
-        match &self.items {
-            Items::Entries(v) => out.push(v.iter().map(|e| e.key).collect()),
-            Items::Nodes(v) => v.iter().for_each(|n| n.leaves(out)),
         }
     }
     /// Equal but for the slots.
@@ -132,25 +131,6 @@ pub fn adds(e: &Entry) -> Totals {
 
 pub fn plus(a: Totals, b: Totals) -> Totals {
     Totals { live: a.live + b.live, dead: a.dead + b.dead, size: a.size + b.size }
-}
-
-impl Index {
-    pub fn new(nodes: usize) -> Index {
-        Index { root: Node::leaf(0, vec![]), unused: (1..nodes).collect() }
-    }
-    pub fn depth(&self) -> usize {
-        self.root.depth()
-    }
-    pub fn entries(&self) -> Vec<Entry> {
-        let mut out = vec![];
-        self.root.entries(&mut out);
-        out
-    }
-    pub fn leaves(&self) -> Vec<Vec<u64>> {
-        let mut out = vec![];
-        self.root.leaves(&mut out);
-        out
-    }
 }
 
 /// The lowest unused slot, taken.

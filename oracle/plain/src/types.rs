@@ -1,10 +1,45 @@
 //! The plain types.
 
+/// What the rules of one tree are given: its order and minimum, in a pool of so many nodes.
 #[derive(Clone, Copy, Debug, PartialEq, Eq)]
 pub struct Settings {
     pub nodes: usize,
     pub order: usize,
     pub minimum: usize,
+}
+
+/// What a tree has for itself.
+#[derive(Clone, Copy, Debug, PartialEq, Eq)]
+pub struct Limits {
+    pub order: usize,
+    pub minimum: usize,
+}
+
+/// The settings of a pool of two trees.
+#[derive(Clone, Copy, Debug, PartialEq, Eq)]
+pub struct PoolSettings {
+    pub nodes: usize,
+    pub trees: [Limits; 2],
+}
+
+impl PoolSettings {
+    /// Two trees of the same order and minimum.
+    pub const fn alike(nodes: usize, order: usize, minimum: usize) -> PoolSettings {
+        PoolSettings { nodes, trees: [Limits { order, minimum }; 2] }
+    }
+    pub fn of(&self, tree: usize) -> Settings {
+        let Limits { order, minimum } = self.trees[tree];
+        Settings { nodes: self.nodes, order, minimum }
+    }
+    /// A freed slot serves either tree, so each slot is as wide as the larger order asks.
+    pub fn larger_order(&self) -> usize {
+        self.trees[0].order.max(self.trees[1].order)
+    }
+    /// Nodes, order and minimum of tree 0, and of tree 1, as an opening has them.
+    pub fn numbers(&self) -> [u64; 5] {
+        let [a, b] = self.trees;
+        [self.nodes, a.order, a.minimum, b.order, b.minimum].map(|n| n as u64)
+    }
 }
 
 #[derive(Clone, Copy, Debug, PartialEq, Eq)]

@@ -6,7 +6,7 @@
 //! The number is how many random sequences are tried from an empty tree, for each question; 3000 where none is given.
 use oracle::random::Random;
 use oracle::search::{smallest, Input, Range};
-use oracle::variants::{agree, entries, first, quiet, second, shown, third};
+use oracle::variants::{agree, first, second, shown, third};
 use oracle::walk::{batch, Keys, Mood};
 use oracle::{reach, trees};
 use plain::frame::Frame;
@@ -14,7 +14,6 @@ use plain::tree::Node;
 use plain::{Call, Entry, Reference, Settings};
 
 fn main() {
-    quiet();
     larger_amount();
     stopped_get();
     lost_keys();
@@ -118,9 +117,9 @@ fn lost_keys() {
     let root = leaves(&[&[1], &[2], &[3], &[4, 5], &[6, 7, 8, 9], &[10, 11, 12, 13]]);
     show("as listed", &Input { order: 7, minimum: 4, root, call: Call::remove(&[4, 6]) });
     let wrong = |i: &Input| {
-        let mut list = entries(&i.root);
+        let mut list = i.root.entries();
         let counts = plain::list::plain_batch(&i.call, &mut list);
-        !matches!(second(i.order, i.minimum, &i.root, &i.call).0, Ok((n, c)) if entries(&n) == list && c == counts)
+        !matches!(second(i.order, i.minimum, &i.root, &i.call).0, Ok((n, c)) if n.entries() == list && c == counts)
     };
     let settings: Vec<(usize, usize)> = (4..=8).flat_map(|o| (2..=(o + 1) / 2).map(move |m| (o, m))).collect();
     let range = |sets, removes, sizes| Range { settings: settings.clone(), sizes, most_keys: 2, depths: 2..=3, sets, removes };
@@ -212,10 +211,9 @@ fn no_other_cause() {
         let order = r.pick(&[4, 4, 5, 6, 7, 8, 16]);
         let st = Settings { nodes: 200, order, minimum: r.between(1, (order + 1) / 2) };
         let (depth, most) = (r.between(1, 4), r.between(1, 60));
-        let root = trees::random(&mut r, &st, depth, most, 3);
-        let x = plain::tree::Index { root: root.clone(), unused: vec![] };
+        let root = trees::random(&mut r, order, depth, most, 3);
         let mood = r.pick(&[Mood::Grow, Mood::Churn, Mood::Clear]);
-        let mut c = batch(&mut r, &st, Some(&x), &mut Keys::Below(120), mood);
+        let mut c = batch(&mut r, &st, Some(&root), &mut Keys::Below(120), mood);
         c.keys.truncate(order);
         c.keys.sort_unstable();
         c.places.resize(c.keys.len(), 5);
@@ -223,9 +221,9 @@ fn no_other_cause() {
         tried += 1;
         let ((a, met), (b, met_b), (d, met_d)) =
             (first(order, st.minimum, &root, &c), second(order, st.minimum, &root, &c), third(order, st.minimum, &root, &c));
-        let mut list = x.entries();
+        let mut list = root.entries();
         let counts = plain::list::plain_batch(&c, &mut list);
-        let right = |l: &Result<(Node, plain::Counts), String>| matches!(l, Ok((n, c)) if entries(n) == list && *c == counts);
+        let right = |l: &Result<(Node, plain::Counts), String>| matches!(l, Ok((n, c)) if n.entries() == list && *c == counts);
         panics += u64::from(a.is_err());
         lost += u64::from(!right(&b));
         other += u64::from(!right(&d));

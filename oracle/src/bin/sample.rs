@@ -10,17 +10,19 @@
 //! There are two pools, each of no bytes at first. One of them is at hand, and "the pool" below is that one; an opening says how many bytes of it
 //! are lent from there on. Which of the two is at hand, kind 15 turns round.
 //!
+//! A tree is 0 or 1. Other numbers are given too, and refused.
+//!
 //! | kind | arguments | answers when done |
 //! |---|---|---|
-//! | 1 open | nodes, order, minimum, bytes lent (0x5a each) | check of the pool |
-//! | 2 totals | | live, dead, size |
-//! | 3 set | place, size, keys | four counts, check of the pool |
-//! | 4 set each | keys, places, sizes | four counts, check of the pool |
-//! | 5 remove | keys | four counts, check of the pool |
-//! | 6 compare | holds, expected place and size, set, place and size, keys | four counts, check of the pool |
-//! | 7 get | bytes of room, keys | written, more, check of the output written |
-//! | 8 scan | start: bounded, included, key; end: the same; down, least, bytes of room | written, more, opened, check of the output written |
-//! | 9 frame | i, bytes of room | length, check of the line |
+//! | 1 open | nodes, order and minimum of tree 0, order and minimum of tree 1, bytes lent (0x5a each) | check of the pool |
+//! | 2 totals | tree | live, dead, size |
+//! | 3 set | tree, place, size, keys | four counts, check of the pool |
+//! | 4 set each | tree, keys, places, sizes | four counts, check of the pool |
+//! | 5 remove | tree, keys | four counts, check of the pool |
+//! | 6 compare | tree, holds, expected place and size, set, place and size, keys | four counts, check of the pool |
+//! | 7 get | tree, bytes of room, keys | written, more, check of the output written |
+//! | 8 scan | tree; start: bounded, included, key; end: the same; down, least, bytes of room | written, more, opened, check of the output written |
+//! | 9 frame | tree, i, bytes of room | length, check of the line |
 //! | 10 read frame | bytes of the line | kind, count, check of its entries as 64-bit words: key, wide, narrow, live, dead, 32 each |
 //! | 11 put | word, value: the pool is damaged, or written by hand | check of the pool |
 //! | 12 case | n: what follows is numbered case n | none, not even 0: it is no call |
@@ -34,11 +36,11 @@ use oracle::random::Random;
 use oracle::script::Step;
 use oracle::stand_in::StandIn;
 use oracle::trees;
-use oracle::walk::{self, Keys, Mood};
+use oracle::walk::{Keys, Mood, Walk};
 use oracle::worn::{Room, Target};
+use plain::forest::Forest;
 use plain::pool::length;
-use plain::tree::Index;
-use plain::{Operation, Settings};
+use plain::{Limits, Operation, PoolSettings};
 
 fn main() {
     let args: Vec<u64> = std::env::args().skip(1).map(|a| a.parse().expect("a number")).collect();
@@ -55,7 +57,8 @@ fn main() {
 fn sample(lines: &mut Lines, calls: u64, r: &mut Random) {
     wrong_openings(lines);
     let end = lines.made().len() + calls as usize;
-    deep_pool(lines, r);
+    deep_pool(lines, r, 0);
+    deep_pool(lines, r, 1);
     while lines.made().len() < end {
         let left = end - lines.made().len();
         one_pool(lines, r, left.min(80));
@@ -84,65 +87,66 @@ fn some_line(r: &mut Random) -> Vec<u8> {
     line
 }
 
-/// Openings whose settings are wrong by one, or whose length is.
+/// Openings whose settings are wrong by one, of one tree or the other, or whose length is, or is that of a pool of one tree.
 fn wrong_openings(lines: &mut Lines) {
-    let lent = length(&Settings { nodes: 8, order: 4, minimum: 2 }) as u64;
-    for [nodes, order, minimum, len] in [
-        [7, 4, 2, lent],
-        [16_385, 4, 2, lent],
-        [8, 3, 2, lent],
-        [8, 33, 2, lent],
-        [8, 4, 0, lent],
-        [8, 4, 3, lent],
-        [8, 4, 2, lent - 1],
-        [8, 4, 2, 0],
-    ] {
-        lines.open_refused(nodes, order, minimum, len);
+    let right = PoolSettings { nodes: 8, trees: [Limits { order: 4, minimum: 2 }, Limits { order: 5, minimum: 3 }] };
+    let lent = length(&right) as u64;
+    for (at, wrong) in [(0, 7), (0, 16_385), (1, 3), (1, 33), (2, 0), (2, 3), (3, 3), (3, 33), (4, 0), (4, 4)] {
+        let mut numbers = right.numbers();
+        numbers[at] = wrong;
+        lines.open_refused(numbers, lent);
+    }
+    for len in [lent - 1, 0, 8 * (4 + 8 * (2 + 6 * 5)), 8 * (8 + 8 * (2 + 6 * 4))] {
+        lines.open_refused(right.numbers(), len);
     }
 }
 
 /// A pool, after an opening over eight bytes too many.
-fn open(lines: &mut Lines, st: Settings) {
-    lines.open_refused(st.nodes as u64, st.order as u64, st.minimum as u64, length(&st) as u64 + 8);
-    lines.open(st);
+fn open(lines: &mut Lines, ps: PoolSettings) {
+    lines.open_refused(ps.numbers(), length(&ps) as u64 + 8);
+    lines.open(ps);
 }
 
-/// A pool from its opening on, with random calls. One of its last calls damages it.
+fn limits(r: &mut Random, orders: &[usize]) -> Limits {
+    let order = r.pick(orders);
+    Limits { order, minimum: r.between(1, (order + 1) / 2) }
+}
+
+/// A pool from its opening on, with random calls on both trees. One of its last calls damages it.
 fn one_pool(lines: &mut Lines, r: &mut Random, calls: usize) {
-    let order = r.pick(&[4, 4, 4, 5, 7, 8, 32]);
-    let st = Settings { nodes: r.pick(&[8, 16, 16, 40]), order, minimum: r.between(1, (order + 1) / 2) };
-    open(lines, st);
-    let mut keys = Keys::random(r, &st);
+    let orders = [4, 4, 4, 5, 7, 8, 32];
+    let ps = PoolSettings { nodes: r.pick(&[9, 16, 20, 40]), trees: [limits(r, &orders), limits(r, &orders)] };
+    open(lines, ps);
+    let mut walk = Walk::random(r, &ps);
     for turn in 0..calls {
         let mood = if turn < calls / 2 { Mood::Grow } else { Mood::Clear };
         let step = if turn + 4 == calls {
-            Step::Put { word: r.below(length(&st) / 8), value: r.below(9) as u64 }
+            Step::Put { word: r.below(length(&ps) / 8), value: r.below(9) as u64 }
         } else if r.one_in(3) {
-            walk::look(r, lines.index(), &mut keys)
+            walk.look(r, lines.forest())
         } else {
-            Step::Batch(walk::batch(r, &st, lines.index(), &mut keys, mood))
+            walk.batch(r, lines.forest(), mood)
         };
         lines.play(&step);
     }
 }
 
-/// A pool of eight levels, put word by word into an opened one.
-fn deep_pool(lines: &mut Lines, r: &mut Random) {
-    let st = Settings { nodes: 16, order: 4, minimum: 2 };
-    open(lines, st);
-    lines.fill(&trees::deepest(16));
-    let mut keys = Keys::Below(4);
+/// A pool with a tree of eight levels, put word by word into an opened one.
+fn deep_pool(lines: &mut Lines, r: &mut Random, tree: u64) {
+    let ps = PoolSettings::alike(16, 4, 2);
+    open(lines, ps);
+    lines.fill(&trees::deepest(tree, 16));
+    let mut walk = Walk { settings: ps, keys: [Keys::Below(4); 2] };
     // at eight levels nothing may be set, however often it is tried; a removal that joins makes room
     for _ in 0..10 {
-        let call = walk::batch(r, &st, lines.index(), &mut keys, Mood::Grow);
-        if call.operation != Operation::Remove {
-            lines.play(&Step::Batch(call));
+        let step = walk.batch(r, lines.forest(), Mood::Grow);
+        if !matches!(&step, Step::Batch { call, .. } if call.operation == Operation::Remove) {
+            lines.play(&step);
         }
     }
     for _ in 0..30 {
-        lines.play(&walk::look(r, lines.index(), &mut keys));
-        let call = walk::batch(r, &st, lines.index(), &mut keys, Mood::Churn);
-        lines.play(&Step::Batch(call));
+        lines.play(&walk.look(r, lines.forest()));
+        lines.play(&walk.batch(r, lines.forest(), Mood::Churn));
     }
 }
 
@@ -160,37 +164,32 @@ fn sample_packs(lines: &mut Lines, r: &mut Random) {
         }
         pack_into(lines, r, |r| Target::new(r.pick(&[Room::More, Room::Exact])));
         lines.turn();
-        let st = lines.settings();
-        let mut keys = Keys::random(r, &st);
+        let mut walk = Walk::random(r, &lines.settings());
         for _ in 0..8 {
-            let step = if r.one_in(3) {
-                walk::look(r, lines.index(), &mut keys)
-            } else {
-                Step::Batch(walk::batch(r, &st, lines.index(), &mut keys, Mood::Churn))
-            };
+            let step = if r.one_in(3) { walk.look(r, lines.forest()) } else { walk.batch(r, lines.forest(), Mood::Churn) };
             lines.play(&step);
         }
     }
 }
 
-/// A pool that is grown by batches, and then thinned.
+/// A pool whose trees are grown by batches, and then thinned.
 fn worn_pool(lines: &mut Lines, r: &mut Random) {
-    let order = r.pick(&[4, 4, 5, 6, 8, 13]);
-    let st = Settings { nodes: r.pick(&[24, 40, 60]), order, minimum: r.between(1, (order + 1) / 2) };
-    lines.open(st);
-    let mut keys = r.pick(&[Keys::Below(1000), Keys::Ascending(0), Keys::Any]);
-    for turn in 0..32 {
-        let mood = if turn < 24 { Mood::Grow } else { Mood::Clear };
-        let call = walk::batch(r, &st, lines.index(), &mut keys, mood);
-        lines.play(&Step::Batch(call));
+    let orders = [4, 4, 5, 6, 8, 13];
+    let ps = PoolSettings { nodes: r.pick(&[24, 40, 60]), trees: [limits(r, &orders), limits(r, &orders)] };
+    lines.open(ps);
+    let mut walk = Walk { settings: ps, keys: [0, 1].map(|_| r.pick(&[Keys::Below(1000), Keys::Ascending(0), Keys::Any])) };
+    for turn in 0..40 {
+        let mood = if turn < 30 { Mood::Grow } else { Mood::Clear };
+        let step = walk.batch(r, lines.forest(), mood);
+        lines.play(&step);
     }
 }
 
 /// The pool at hand packed into the other one, which is opened for it.
 fn pack_into(lines: &mut Lines, r: &mut Random, target: impl Fn(&mut Random) -> Target) {
-    let st = lines.settings();
-    let x = lines.index().cloned().unwrap_or_else(|| Index::new(st.nodes));
-    let script = target(r).script(r, &st, &x);
+    let ps = lines.settings();
+    let f = lines.forest().cloned().unwrap_or_else(|| Forest::new(ps.nodes));
+    let script = target(r).script(r, &ps, &f);
     lines.turn();
     lines.open(script.settings);
     for step in &script.steps {

@@ -3,9 +3,9 @@ use super::{Found, Work};
 use crate::script::Step;
 use crate::session::Session;
 use crate::trees;
-use crate::walk::{self, Keys, Mood};
+use crate::walk::{Keys, Mood, Walk};
 use plain::tree::{Items, Node};
-use plain::{Call, Settings};
+use plain::{Call, Limits};
 use std::time::Instant;
 
 /// A node of depth h with one child a level.
@@ -67,8 +67,8 @@ impl Work<'_> {
                     let mut root = way(h, order, at);
                     give_keys(&mut root, &mut 0);
                     let ks = leaf_keys(&root, at);
-                    let nodes = (root.nodes() + plain::refuse::needed(order, h) + self.random.below(3)).clamp(8, 16_384);
-                    self.batches_about(Settings { nodes, order, minimum }, root, &ks)?;
+                    let unused = plain::refuse::needed(order, h) + self.random.below(3);
+                    self.batches_about(Limits { order, minimum }, root, unused, &ks)?;
                 }
             }
         }
@@ -76,8 +76,9 @@ impl Work<'_> {
     }
 
     /// Short batches about some keys, each followed by random calls.
-    fn batches_about(&mut self, st: Settings, root: Node, ks: &[u64]) -> Result<(), Found> {
-        let x = trees::placed(root, st.nodes, Some(&mut self.random));
+    fn batches_about(&mut self, limits: Limits, root: Node, unused: usize, ks: &[u64]) -> Result<(), Found> {
+        let before = root.depth();
+        let (tree, ps, f) = self.beside(limits, root, unused);
         let (low, high) = (ks[0], ks[ks.len() - 1]);
         let calls = [
             Call::set(&[low - 5], 9, 9),
@@ -89,20 +90,20 @@ impl Work<'_> {
             Call::remove(ks),
         ];
         for c in calls {
-            let mut s = Self::fail(st, Some(&x), &[], Session::new(self.lib, st, Some(&x)))?;
-            let mut steps = vec![Step::Batch(c)];
-            let mut keys = Keys::Below(high + 20);
+            let mut s = Self::fail(ps, Some(&f), &[], Session::new(self.lib, ps, Some(&f)))?;
+            let mut steps = vec![Step::batch(tree, c)];
+            let mut walk = Walk { settings: ps, keys: [Keys::Below(high + 20); 2] };
             for turn in 0..12 {
                 let step = steps[turn].clone();
-                Self::fail(st, Some(&x), &steps, s.step(&step))?;
-                let depth = s.index().map_or(0, |x| x.depth());
+                Self::fail(ps, Some(&f), &steps, s.step(&step))?;
+                let after = s.forest().map_or(0, |f| f.roots[tree as usize].depth());
                 if turn == 0 {
-                    self.tally.count(&format!("full ways, from depth {} to {depth}", x.depth()));
+                    self.tally.count(&format!("full ways, from depth {before} to {after}"));
                 }
                 let mood = self.random.pick(&[Mood::Churn, Mood::Clear]);
                 steps.push(match turn % 3 {
-                    2 => walk::look(&mut self.random, s.index(), &mut keys),
-                    _ => Step::Batch(walk::batch(&mut self.random, &st, s.index(), &mut keys, mood)),
+                    2 => walk.look(&mut self.random, s.forest()),
+                    _ => walk.batch(&mut self.random, s.forest(), mood),
                 });
             }
             self.tally.add(&s.tally);

@@ -4,7 +4,7 @@ use super::{Found, Work};
 use crate::script::Step;
 use crate::session::Session;
 use crate::trees;
-use plain::{Bound, Request, Settings};
+use plain::{Bound, Limits, Request};
 use std::time::Instant;
 
 impl Work<'_> {
@@ -16,29 +16,29 @@ impl Work<'_> {
             let mut bounds = vec![Bound::Unbounded];
             bounds.extend(all.iter().flat_map(|&k| [Bound::Included(k), Bound::Excluded(k)]));
             for root in trees::up_to(&keys, 4, 4) {
-                let st = Settings { nodes: root.nodes().max(8), order: 4, minimum: 2 };
-                let x = trees::placed(root, st.nodes, Some(&mut self.random));
-                let mut steps = vec![Step::Totals];
+                let unused = self.random.below(3);
+                let (tree, ps, f) = self.beside(Limits { order: 4, minimum: 2 }, root, unused);
+                let mut steps = vec![Step::Totals { tree }];
                 for ks in batches(&all, 3) {
-                    steps.extend((0..=ks.len() + 1).map(|r| Step::Get { keys: ks.clone(), room: 24 * r }));
+                    steps.extend((0..=ks.len() + 1).map(|r| Step::Get { tree, keys: ks.clone(), room: 24 * r }));
                 }
                 for &start in &bounds {
                     for &end in &bounds {
                         for (down, least) in [(false, 0), (true, 0), (false, 16), (true, 17), (false, 33)] {
                             let request = Request { start, end, down, least };
-                            steps.extend((0..=n as usize).map(|r| Step::Scan { request, room: 24 * r }));
+                            steps.extend((0..=n as usize).map(|r| Step::Scan { tree, request, room: 24 * r }));
                         }
                     }
                 }
-                steps.extend((0..=st.nodes as u64).map(|i| Step::Frame { i, room: 500 }));
-                let mut s = Self::fail(st, Some(&x), &[], Session::new(self.lib, st, Some(&x)))?;
+                steps.extend((0..=ps.nodes as u64).map(|i| Step::Frame { tree, i, room: 500 }));
+                let mut s = Self::fail(ps, Some(&f), &[], Session::new(self.lib, ps, Some(&f)))?;
                 for step in &steps {
                     if Instant::now() > until {
                         println!("  (out of time at trees of {n} entries)");
                         self.tally.add(&s.tally);
                         return Ok(());
                     }
-                    Self::fail(st, Some(&x), std::slice::from_ref(step), s.step(step))?;
+                    Self::fail(ps, Some(&f), std::slice::from_ref(step), s.step(step))?;
                 }
                 self.tally.add(&s.tally);
             }

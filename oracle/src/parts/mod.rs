@@ -4,8 +4,10 @@ use crate::random::Random;
 use crate::script::{Script, Step};
 use crate::session::Difference;
 use crate::tally::Tally;
-use plain::tree::Index;
-use plain::Settings;
+use crate::trees;
+use plain::forest::Forest;
+use plain::tree::Node;
+use plain::{Limits, PoolSettings};
 use std::time::Instant;
 
 mod damaged;
@@ -53,7 +55,21 @@ impl<'l> Work<'l> {
     }
 
     /// A difference with the script that shows it.
-    fn fail<T>(settings: Settings, start: Option<&Index>, steps: &[Step], r: Result<T, Difference>) -> Result<T, Found> {
+    fn fail<T>(settings: PoolSettings, start: Option<&Forest>, steps: &[Step], r: Result<T, Difference>) -> Result<T, Found> {
         r.map_err(|d| (Some(Script { settings, start: start.cloned(), steps: steps.to_vec() }), d))
+    }
+
+    /// A tree as one of two in a pool, in any slots: which of them it is, the settings, with so many unused nodes or as many as make eight of all,
+    /// and what the pool holds. The other tree is a small one, often of another order.
+    fn beside(&mut self, limits: Limits, root: Node, unused: usize) -> (u64, PoolSettings, Forest) {
+        let r = &mut self.random;
+        let (order, minimum) = r.pick(&[(limits.order, limits.minimum), (4, 2), (5, 3), (7, 1), (9, 5)]);
+        let others = Limits { order, minimum };
+        let depth = r.pick(&[1, 1, 2, 3]);
+        let other = trees::random(r, order, depth, 6, 5);
+        let tree = r.below(2) as u64;
+        let nodes = (root.nodes() + other.nodes() + unused).max(8);
+        let ps = PoolSettings { nodes, trees: trees::pair(tree, limits, others) };
+        (tree, ps, trees::planted(trees::pair(tree, root, other), nodes, Some(r)))
     }
 }

@@ -3,11 +3,12 @@ use super::{Found, Work};
 use crate::script::Step;
 use crate::session::Session;
 use crate::trees::{self, entry_for};
-use crate::walk::{self, Keys, Mood};
+use crate::walk::{Mood, Walk};
 use crate::worn::{worn, Room, Target};
+use plain::forest::Forest;
 use plain::pool::length;
-use plain::tree::{Index, Node};
-use plain::{Call, Entry, Settings};
+use plain::tree::Node;
+use plain::{Call, Entry, Limits, PoolSettings};
 use std::time::Instant;
 
 /// Entries of the even keys.
@@ -24,46 +25,47 @@ impl Work<'_> {
     }
 
     /// So many entries in nodes of `fewest` to order.
-    fn loose(&mut self, n: usize, fewest: usize, order: usize, minimum: usize) -> (Settings, Index) {
-        let root = trees::loose(&mut self.random, &entries(n), fewest, order);
-        self.scattered(root, order, minimum)
+    fn loose(&mut self, n: usize, fewest: usize, limits: Limits) -> (PoolSettings, Forest) {
+        let root = trees::loose(&mut self.random, &entries(n), fewest, limits.order);
+        self.scattered(root, limits)
     }
 
-    /// A tree in a pool that has room for a few nodes more, in any slots.
-    fn scattered(&mut self, root: Node, order: usize, minimum: usize) -> (Settings, Index) {
-        let st = Settings { nodes: (root.nodes() + self.random.below(4)).max(8), order, minimum };
-        (st, trees::placed(root, st.nodes, Some(&mut self.random)))
+    /// A tree beside another one in a pool that has room for a few nodes more, in any slots.
+    fn scattered(&mut self, root: Node, limits: Limits) -> (PoolSettings, Forest) {
+        let unused = self.random.below(4);
+        let (_, ps, f) = self.beside(limits, root, unused);
+        (ps, f)
     }
 
-    /// Steps on the pool of an index.
-    fn steps(&mut self, st: Settings, x: &Index, steps: &[Step]) -> Result<(), Found> {
-        let mut s = Self::fail(st, Some(x), &[], Session::new(self.lib, st, Some(x)))?;
+    /// Steps on the pool of a forest.
+    fn steps(&mut self, ps: PoolSettings, f: &Forest, steps: &[Step]) -> Result<(), Found> {
+        let mut s = Self::fail(ps, Some(f), &[], Session::new(self.lib, ps, Some(f)))?;
         for (i, step) in steps.iter().enumerate() {
-            Self::fail(st, Some(x), &steps[..=i], s.step(step))?;
+            Self::fail(ps, Some(f), &steps[..=i], s.step(step))?;
         }
         self.tally.add(&s.tally);
         Ok(())
     }
 
-    fn pack(&mut self, target: Target, st: &Settings, x: &Index, onward: bool) -> Step {
-        Step::Pack { target: target.script(&mut self.random, st, x), onward }
+    fn pack(&mut self, target: Target, ps: &PoolSettings, f: &Forest, onward: bool) -> Step {
+        Step::Pack { target: target.script(&mut self.random, ps, f), onward }
     }
 
     /// Targets to which none, one or several of 2, 17, 18 and 7 apply, for a source that is sound or not.
     fn every_target(&mut self) -> Result<(), Found> {
         for (order, minimum) in [(4, 2), (5, 1), (9, 5), (32, 16)] {
-            let (st, x) = self.loose(8 * order, 1, order, minimum);
-            let words = length(&st) / 8;
+            let (ps, f) = self.loose(8 * order, 1, Limits { order, minimum });
+            let words = length(&ps) / 8;
             for target in Target::all() {
-                let pack = self.pack(target, &st, &x, false);
-                self.steps(st, &x, std::slice::from_ref(&pack))?;
-                for damage in [Step::Put { word: 0, value: 2 }, Step::Put { word: words - 1, value: 1 }, Step::Resize { len: 8 * words - 8 }] {
-                    self.steps(st, &x, &[damage, pack.clone()])?;
+                let pack = self.pack(target, &ps, &f, false);
+                self.steps(ps, &f, std::slice::from_ref(&pack))?;
+                for damage in [Step::Put { word: 0, value: 1 }, Step::Put { word: words - 1, value: 1 }, Step::Resize { len: 8 * words - 8 }] {
+                    self.steps(ps, &f, &[damage, pack.clone()])?;
                 }
             }
-            let pack = self.pack(Target::new(Room::Exact), &st, &x, false);
-            for len in [0, 1, 8, 31, 32, 33] {
-                self.steps(st, &x, &[Step::Resize { len }, pack.clone()])?;
+            let pack = self.pack(Target::new(Room::Exact), &ps, &f, false);
+            for len in [0, 1, 8, 32, 63, 64, 65] {
+                self.steps(ps, &f, &[Step::Resize { len }, pack.clone()])?;
             }
         }
         Ok(())
@@ -79,10 +81,12 @@ impl Work<'_> {
                         println!("  (out of time at trees of {n} entries)");
                         return Ok(());
                     }
-                    let (st, x) = self.scattered(root, order, minimum);
-                    let pack = self.pack(Target::new(Room::Exact), &st, &x, true);
+                    let (ps, f) = self.scattered(root, Limits { order, minimum });
+                    let pack = self.pack(Target::new(Room::Exact), &ps, &f, true);
                     let k = self.random.between(1, 2 * n as usize + 1) as u64;
-                    self.steps(st, &x, &[pack, Step::Batch(Call::set(&[k], 7, 7)), Step::Batch(Call::remove(&[k + k % 2]))])?;
+                    let tree = self.random.below(2) as u64;
+                    let then = [Call::set(&[k], 7, 7), Call::remove(&[k + k % 2])].map(|c| Step::batch(tree, c));
+                    self.steps(ps, &f, &[&[pack][..], &then].concat())?;
                 }
             }
         }
@@ -107,24 +111,24 @@ impl Work<'_> {
                     return Ok(());
                 }
                 let minimum = self.random.between(1, (order + 1) / 2);
-                let (st, x) = self.loose(n, 1, order, minimum);
-                self.with_each_room(st, &x)?;
+                let (ps, f) = self.loose(n, 1, Limits { order, minimum });
+                self.with_each_room(ps, &f)?;
             }
         }
         // as deep as packing goes
         for (order, n) in [(4, 16_384), (4, 16_385), (16, 4097), (32, 32_769)] {
             if Instant::now() < until {
-                let (st, x) = self.loose(n, order - 1, order, 1);
-                self.with_each_room(st, &x)?;
+                let (ps, f) = self.loose(n, order - 1, Limits { order, minimum: 1 });
+                self.with_each_room(ps, &f)?;
             }
         }
         Ok(())
     }
 
-    fn with_each_room(&mut self, st: Settings, x: &Index) -> Result<(), Found> {
+    fn with_each_room(&mut self, ps: PoolSettings, f: &Forest) -> Result<(), Found> {
         for room in [Room::Exact, Room::Less, Room::More] {
-            let pack = self.pack(Target::new(room), &st, x, false);
-            self.steps(st, x, &[pack])?;
+            let pack = self.pack(Target::new(room), &ps, f, false);
+            self.steps(ps, f, &[pack])?;
         }
         Ok(())
     }
@@ -132,9 +136,9 @@ impl Work<'_> {
     fn packs_worn(&mut self, until: Instant) -> Result<(), Found> {
         let mut pools = 0;
         while pools == 0 || Instant::now() < until {
-            let st = self.settings();
-            let x = if self.random.one_in(4) { self.random_index(&st) } else { worn(&mut self.random, &st) };
-            self.packs_at_random(st, &x)?;
+            let ps = self.settings();
+            let f = if self.random.one_in(4) { self.random_forest(&ps) } else { worn(&mut self.random, &ps) };
+            self.packs_at_random(ps, &f)?;
             pools += 1;
         }
         println!("  ({pools} worn pools)");
@@ -142,42 +146,43 @@ impl Work<'_> {
     }
 
     /// Packed into some targets; then on with one of them, random calls among further packings; at last, sometimes, damaged.
-    fn packs_at_random(&mut self, st: Settings, x: &Index) -> Result<(), Found> {
-        let mut s = Self::fail(st, Some(x), &[], Session::new(self.lib, st, Some(x)))?;
-        let mut keys = Keys::random(&mut self.random, &st);
+    fn packs_at_random(&mut self, ps: PoolSettings, f: &Forest) -> Result<(), Found> {
+        let mut s = Self::fail(ps, Some(f), &[], Session::new(self.lib, ps, Some(f)))?;
+        let mut walk = Walk::random(&mut self.random, &ps);
         let mut steps = vec![];
         let turns = self.random.pick(&[4, 12, 30]);
         for turn in 0..turns {
-            let (now, held) = (s.settings, s.index().cloned());
+            let (now, held) = (s.settings, s.forest().cloned());
+            walk.settings = now;
             let step = match turn {
-                0 | 1 => self.pack_at_random(&now, held.as_ref().unwrap_or(x), false),
+                0 | 1 => self.pack_at_random(&now, held.as_ref().unwrap_or(f), false),
                 2 => {
                     let room = self.random.pick(&[Room::More, Room::Exact]);
-                    self.pack(Target::new(room), &now, held.as_ref().unwrap_or(x), true)
+                    self.pack(Target::new(room), &now, held.as_ref().unwrap_or(f), true)
                 }
                 _ if turn + 2 == turns && self.random.one_in(3) => {
                     Step::Put { word: self.random.below(s.pool().len() / 8), value: self.random.below(5) as u64 }
                 }
-                _ if turn + 1 == turns || self.random.one_in(6) => self.pack_at_random(&now, held.as_ref().unwrap_or(x), true),
-                _ if self.random.one_in(4) => walk::look(&mut self.random, s.index(), &mut keys),
+                _ if turn + 1 == turns || self.random.one_in(6) => self.pack_at_random(&now, held.as_ref().unwrap_or(f), true),
+                _ if self.random.one_in(4) => walk.look(&mut self.random, s.forest()),
                 _ => {
                     let mood = self.random.pick(&[Mood::Grow, Mood::Churn, Mood::Clear]);
-                    Step::Batch(walk::batch(&mut self.random, &now, s.index(), &mut keys, mood))
+                    walk.batch(&mut self.random, s.forest(), mood)
                 }
             };
             steps.push(step.clone());
-            Self::fail(st, Some(x), &steps, s.step(&step))?;
+            Self::fail(ps, Some(f), &steps, s.step(&step))?;
         }
         self.tally.add(&s.tally);
         Ok(())
     }
 
     /// Into any target, sometimes one of a wrong length.
-    fn pack_at_random(&mut self, st: &Settings, x: &Index, onward: bool) -> Step {
-        let mut target = Target::random(&mut self.random).script(&mut self.random, st, x);
+    fn pack_at_random(&mut self, ps: &PoolSettings, f: &Forest, onward: bool) -> Step {
+        let mut target = Target::random(&mut self.random).script(&mut self.random, ps, f);
         if self.random.one_in(12) {
             let n = length(&target.settings);
-            target.steps.push(Step::Resize { len: self.random.pick(&[0, 8, 31, 32, n - 8, n - 1, n + 1, n + 8]) });
+            target.steps.push(Step::Resize { len: self.random.pick(&[0, 8, 32, 63, 64, n - 8, n - 1, n + 1, n + 8]) });
         }
         Step::Pack { target, onward }
     }

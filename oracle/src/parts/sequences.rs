@@ -2,8 +2,8 @@
 use super::{Found, Work};
 use crate::script::Step;
 use crate::session::Session;
-use plain::tree::Index;
-use plain::{Action, Call, Expectation, Reference, Settings};
+use plain::forest::Forest;
+use plain::{Action, Call, Expectation, Limits, PoolSettings, Reference};
 use std::time::Instant;
 
 /// All ascending lists of up to `most` of these keys, equal neighbours allowed.
@@ -40,20 +40,37 @@ pub(super) fn calls(keys: &[u64], all: bool) -> Vec<Call> {
     v
 }
 
+/// These calls on some lists of keys, on one tree.
+fn steps(tree: u64, lists: &[Vec<u64>], all: bool) -> Vec<Step> {
+    lists.iter().flat_map(|keys| calls(keys, all)).map(|call| Step::batch(tree, call)).collect()
+}
+
 impl Work<'_> {
-    /// All sequences of two batches with every operation, and of three with three of them, from a new pool.
+    /// From a new pool: all sequences of two batches, with every operation on one tree and three of them on the other; and of three batches, with
+    /// three operations on both.
     pub(super) fn sequences(&mut self, until: Instant) -> Result<(), Found> {
-        for (order, minimum, nodes) in [(4, 2, 16), (5, 3, 16), (4, 1, 8), (5, 2, 9)] {
-            let st = Settings { nodes, order, minimum };
-            let start = Self::fail(st, None, &[], Session::new(self.lib, st, None))?;
+        let limits = |order, minimum| Limits { order, minimum };
+        let pools = [
+            (16, [limits(4, 2), limits(4, 2)]),
+            (16, [limits(4, 1), limits(5, 3)]),
+            (9, [limits(5, 2), limits(4, 1)]),
+            (10, [limits(4, 2), limits(5, 2)]),
+        ];
+        let lists = batches(&[1, 2, 3, 4], 3);
+        let begin = Instant::now();
+        for (i, (nodes, trees)) in (1..).zip(pools) {
+            // each pool has its share of the time
+            let until = begin + (until.saturating_duration_since(begin) * i) / 4;
+            let ps = PoolSettings { nodes, trees };
+            let start = Self::fail(ps, None, &[], Session::new(self.lib, ps, None))?;
             self.tally.add(&start.tally);
-            let wide: Vec<Step> = batches(&[1, 2, 3, 4], 3).iter().flat_map(|b| calls(b, true)).map(Step::Batch).collect();
-            let few: Vec<Step> = batches(&[1, 2, 3, 4], 3).iter().flat_map(|b| calls(b, false)).map(Step::Batch).collect();
+            let [few, also] = [0, 1].map(|tree| steps(tree, &lists, false));
+            let more = u64::from(i % 2 == 0);
+            let wide = [steps(more, &lists, true), if more == 0 { also.clone() } else { few.clone() }].concat();
             self.onward(&start, None, &wide, 2, &mut vec![], until)?;
-            self.onward(&start, None, &few, 3, &mut vec![], until)?;
+            self.onward(&start, None, &[few, also].concat(), 3, &mut vec![], until)?;
             if Instant::now() > until {
-                println!("  (out of time at order {order}, minimum {minimum})");
-                break;
+                println!("  (out of time with {ps:?})");
             }
         }
         Ok(())
@@ -63,7 +80,7 @@ impl Work<'_> {
     pub(super) fn onward(
         &mut self,
         s: &Session<'_>,
-        start: Option<&Index>,
+        start: Option<&Forest>,
         calls: &[Step],
         left: usize,
         done: &mut Vec<Step>,

@@ -5,7 +5,7 @@ use crate::script::Step;
 use crate::session::Session;
 use crate::trees;
 use plain::tree::Node;
-use plain::Settings;
+use plain::{Call, Limits};
 use std::time::Instant;
 
 impl Work<'_> {
@@ -27,37 +27,27 @@ impl Work<'_> {
                         println!("  (out of time at trees of {n} entries)");
                         return Ok(());
                     }
-                    self.on_small_tree(order, minimum, root, &batches, in_a_row, until)?;
+                    self.on_small_tree(Limits { order, minimum }, root, &batches, in_a_row, until)?;
                 }
             }
         }
         Ok(())
     }
 
-    fn on_small_tree(
-        &mut self,
-        order: usize,
-        minimum: usize,
-        root: Node,
-        batches: &[Vec<u64>],
-        in_a_row: usize,
-        until: Instant,
-    ) -> Result<(), Found> {
+    fn on_small_tree(&mut self, limits: Limits, root: Node, batches: &[Vec<u64>], in_a_row: usize, until: Instant) -> Result<(), Found> {
         let most = batches.iter().map(Vec::len).max().unwrap_or(0);
-        let nodes = (root.nodes() + plain::refuse::needed(most, root.depth())).max(8);
-        let steps: Vec<Step> = batches.iter().flat_map(|b| calls(b, b.len() < 2)).map(Step::Batch).collect();
-        self.on_pool(Settings { nodes, order, minimum }, root.clone(), &steps, in_a_row, until)?;
+        let unused = plain::refuse::needed(most, root.depth());
+        let all: Vec<Call> = batches.iter().flat_map(|b| calls(b, b.len() < 2)).collect();
+        self.on_pool(limits, root.clone(), unused, &all, in_a_row, until)?;
         // one unused node fewer: the longest batches are refused
-        if nodes > 8 {
-            let longest: Vec<Step> = batches.last().map(|b| calls(b, true)).unwrap_or_default().into_iter().map(Step::Batch).collect();
-            self.on_pool(Settings { nodes: nodes - 1, order, minimum }, root, &longest, 1, until)?;
-        }
-        Ok(())
+        let longest = batches.last().map(|b| calls(b, true)).unwrap_or_default();
+        self.on_pool(limits, root, unused - 1, &longest, 1, until)
     }
 
-    fn on_pool(&mut self, st: Settings, root: Node, steps: &[Step], in_a_row: usize, until: Instant) -> Result<(), Found> {
-        let x = trees::placed(root, st.nodes, Some(&mut self.random));
-        let s = Self::fail(st, Some(&x), &[], Session::new(self.lib, st, Some(&x)))?;
-        self.onward(&s, Some(&x), steps, in_a_row, &mut vec![], until)
+    fn on_pool(&mut self, limits: Limits, root: Node, unused: usize, calls: &[Call], in_a_row: usize, until: Instant) -> Result<(), Found> {
+        let (tree, ps, f) = self.beside(limits, root, unused);
+        let steps: Vec<Step> = calls.iter().map(|c| Step::batch(tree, c.clone())).collect();
+        let s = Self::fail(ps, Some(&f), &[], Session::new(self.lib, ps, Some(&f)))?;
+        self.onward(&s, Some(&f), &steps, in_a_row, &mut vec![], until)
     }
 }

@@ -3,35 +3,82 @@ use crate::refusal::done;
 use crate::{raw, Action, Counts, Direction, Entries, Expectation, Got, Operation, Reference, Refusal, Scanned, Sift};
 use core::ops::RangeBounds;
 
-/// The settings of a pool, which it keeps.
+/// One of the two trees of a pool.
 #[derive(Clone, Copy, Debug, PartialEq, Eq, Hash)]
-pub struct Settings {
-    /// How many nodes it has room for: 8 to 16,384.
-    pub nodes: u64,
+pub enum Tree {
+    /// Tree 0.
+    First,
+    /// Tree 1.
+    Second,
+}
+
+impl Tree {
+    /// The number that the index has for it, and the calls of [`raw`] take.
+    #[must_use]
+    pub const fn number(self) -> u64 {
+        match self {
+            Tree::First => 0,
+            Tree::Second => 1,
+        }
+    }
+
+    /// The tree of a number; none where it is not 0 or 1.
+    #[must_use]
+    pub const fn from_number(number: u64) -> Option<Tree> {
+        match number {
+            0 => Some(Tree::First),
+            1 => Some(Tree::Second),
+            _ => None,
+        }
+    }
+}
+
+impl From<Tree> for u64 {
+    fn from(tree: Tree) -> u64 {
+        tree.number()
+    }
+}
+
+/// The settings of one tree.
+#[derive(Clone, Copy, Debug, PartialEq, Eq, Hash)]
+pub struct Limits {
     /// The most entries of a node, and keys of a batch: 4 to 32.
     pub order: u64,
     /// The length below which a node is joined with another: 1 to (order + 1) / 2.
     pub minimum: u64,
 }
 
+/// The settings of a pool, which it keeps.
+#[derive(Clone, Copy, Debug, PartialEq, Eq, Hash)]
+pub struct Settings {
+    /// How many nodes it has room for, of both trees together: 8 to 16,384.
+    pub nodes: u64,
+    /// Those of [`Tree::First`].
+    pub first: Limits,
+    /// Those of [`Tree::Second`].
+    pub second: Limits,
+}
+
 impl Settings {
     /// The exact length of such a pool, in bytes; none where a setting is out of its limits.
     #[must_use]
     pub fn pool_len(self) -> Option<usize> {
-        match raw::pool_len(self.nodes, self.order, self.minimum) {
+        let Settings { nodes, first, second } = self;
+        match raw::pool_len(nodes, first.order, first.minimum, second.order, second.minimum) {
             0 => None,
             len => usize::try_from(len).ok(),
         }
     }
 }
 
-/// The exact length of a pool, in bytes, for an array. The settings must be in their limits; [`Settings::pool_len`] tests them.
+/// The exact length of a pool whose trees have these orders, in bytes, for an array. The settings must be in their limits;
+/// [`Settings::pool_len`] tests them.
 #[must_use]
-pub const fn pool_len(nodes: usize, order: usize) -> usize {
-    8 * (4 + nodes * (2 + 6 * order))
+pub const fn pool_len(nodes: usize, first: usize, second: usize) -> usize {
+    8 * (8 + nodes * (2 + 6 * if first > second { first } else { second }))
 }
 
-/// What a whole index holds.
+/// What a whole tree holds.
 #[derive(Clone, Copy, Debug, Default, PartialEq, Eq)]
 pub struct Totals {
     /// The number of live entries.
@@ -56,12 +103,13 @@ impl<'a> Pool<'a> {
         Pool { bytes }
     }
 
-    /// A pool made one empty leaf, whatever the bytes were.
+    /// A pool made two empty leaves, one of each tree, whatever the bytes were.
     ///
     /// # Errors
     /// [`Refusal::WrongSetting`].
     pub fn open(bytes: &'a mut [u8], settings: Settings) -> Result<Pool<'a>, Refusal> {
-        let number = raw::open(bytes, settings.nodes, settings.order, settings.minimum);
+        let Settings { nodes, first, second } = settings;
+        let number = raw::open(bytes, nodes, first.order, first.minimum, second.order, second.minimum);
         done(number, Pool { bytes })
     }
 
@@ -71,17 +119,17 @@ impl<'a> Pool<'a> {
         View { bytes: self.bytes }
     }
 
-    /// Takes the keys, first to last.
+    /// Takes the keys into a tree, first to last.
     ///
     /// # Errors
     /// [`Refusal::NotSound`], [`Refusal::BatchTooLong`], [`Refusal::ReferencesDiffer`] of a SetEach, [`Refusal::KeysDescend`]; and of any
     /// operation but Remove [`Refusal::TooDeep`], [`Refusal::TooFewNodes`].
-    pub fn batch(&mut self, keys: &[u64], operation: Operation<'_>) -> Result<Counts, Refusal> {
+    pub fn batch(&mut self, tree: Tree, keys: &[u64], operation: Operation<'_>) -> Result<Counts, Refusal> {
         match operation {
-            Operation::Set(reference) => self.set(keys, reference),
-            Operation::SetEach { places, sizes } => self.set_each(keys, places, sizes),
-            Operation::Remove => self.remove(keys),
-            Operation::Compare(expectation, action) => self.compare(keys, expectation, action),
+            Operation::Set(reference) => self.set(tree, keys, reference),
+            Operation::SetEach { places, sizes } => self.set_each(tree, keys, places, sizes),
+            Operation::Remove => self.remove(tree, keys),
+            Operation::Compare(expectation, action) => self.compare(tree, keys, expectation, action),
         }
     }
 
@@ -89,9 +137,9 @@ impl<'a> Pool<'a> {
     ///
     /// # Errors
     /// As of [`Pool::batch`].
-    pub fn set(&mut self, keys: &[u64], reference: Reference) -> Result<Counts, Refusal> {
+    pub fn set(&mut self, tree: Tree, keys: &[u64], reference: Reference) -> Result<Counts, Refusal> {
         let mut counts = [0; 4];
-        let number = raw::set(self.bytes, keys, reference.place, reference.size, &mut counts);
+        let number = raw::set(self.bytes, tree.number(), keys, reference.place, reference.size, &mut counts);
         done(number, counts.into())
     }
 
@@ -99,9 +147,9 @@ impl<'a> Pool<'a> {
     ///
     /// # Errors
     /// As of [`Pool::batch`].
-    pub fn set_each(&mut self, keys: &[u64], places: &[u64], sizes: &[u32]) -> Result<Counts, Refusal> {
+    pub fn set_each(&mut self, tree: Tree, keys: &[u64], places: &[u64], sizes: &[u32]) -> Result<Counts, Refusal> {
         let mut counts = [0; 4];
-        let number = raw::set_each(self.bytes, keys, places, sizes, &mut counts);
+        let number = raw::set_each(self.bytes, tree.number(), keys, places, sizes, &mut counts);
         done(number, counts.into())
     }
 
@@ -109,9 +157,9 @@ impl<'a> Pool<'a> {
     ///
     /// # Errors
     /// As of [`Pool::batch`].
-    pub fn remove(&mut self, keys: &[u64]) -> Result<Counts, Refusal> {
+    pub fn remove(&mut self, tree: Tree, keys: &[u64]) -> Result<Counts, Refusal> {
         let mut counts = [0; 4];
-        let number = raw::remove(self.bytes, keys, &mut counts);
+        let number = raw::remove(self.bytes, tree.number(), keys, &mut counts);
         done(number, counts.into())
     }
 
@@ -119,7 +167,7 @@ impl<'a> Pool<'a> {
     ///
     /// # Errors
     /// As of [`Pool::batch`].
-    pub fn compare(&mut self, keys: &[u64], expectation: Expectation, action: Action) -> Result<Counts, Refusal> {
+    pub fn compare(&mut self, tree: Tree, keys: &[u64], expectation: Expectation, action: Action) -> Result<Counts, Refusal> {
         let expected = match expectation {
             Expectation::Absent => None,
             Expectation::Holds(r) => Some((r.place, r.size)),
@@ -129,7 +177,7 @@ impl<'a> Pool<'a> {
             Action::Set(r) => Some((r.place, r.size)),
         };
         let mut counts = [0; 4];
-        let number = raw::compare(self.bytes, keys, expected, action, &mut counts);
+        let number = raw::compare(self.bytes, tree.number(), keys, expected, action, &mut counts);
         done(number, counts.into())
     }
 }
@@ -147,23 +195,23 @@ impl<'a> View<'a> {
         View { bytes }
     }
 
-    /// What the whole index holds.
+    /// What the whole tree holds.
     ///
     /// # Errors
     /// [`Refusal::NotSound`].
-    pub fn totals(self) -> Result<Totals, Refusal> {
+    pub fn totals(self, tree: Tree) -> Result<Totals, Refusal> {
         let mut totals = [0; 3];
-        let number = raw::totals(self.bytes, &mut totals);
+        let number = raw::totals(self.bytes, tree.number(), &mut totals);
         let [live, dead, size] = totals;
         done(number, Totals { live, dead, size })
     }
 
-    /// Copies the tree, packed, into a new pool of the same order and minimum: each level has as few nodes as its entries need, every one of
-    /// them full but the last, and the nodes stand in the order of the preorder walk. A pool that was emptied again is new.
+    /// Copies both trees, packed, into a new pool of the same orders and minimums: each level has as few nodes as its entries need, every one of
+    /// them full but the last, and the nodes stand in the order of the preorder walk. A pool of which both trees were emptied again is new.
     ///
     /// # Errors
     /// [`Refusal::NotSound`] of either pool, [`Refusal::SettingsDiffer`], [`Refusal::TargetNotNew`], [`Refusal::TooFewNodes`] where the target has
-    /// fewer nodes than the packed tree needs; never where it has as many as this pool.
+    /// fewer nodes than both packed trees need; never where it has as many as this pool.
     pub fn pack_into(self, target: &mut Pool<'_>) -> Result<(), Refusal> {
         done(raw::pack(self.bytes, target.bytes), ())
     }
@@ -173,9 +221,9 @@ impl<'a> View<'a> {
     ///
     /// # Errors
     /// [`Refusal::NotSound`], [`Refusal::KeysDescend`].
-    pub fn get<'o>(self, keys: &[u64], out: &'o mut [u8]) -> Result<Got<'o>, Refusal> {
+    pub fn get<'o>(self, tree: Tree, keys: &[u64], out: &'o mut [u8]) -> Result<Got<'o>, Refusal> {
         let mut told = [0; 2];
-        let number = raw::get(self.bytes, keys, out, &mut told);
+        let number = raw::get(self.bytes, tree.number(), keys, out, &mut told);
         let [written, more] = told;
         done(number, Got { entries: Entries::new(out, written), more: more != 0 })
     }
@@ -187,6 +235,7 @@ impl<'a> View<'a> {
     /// [`Refusal::NotSound`].
     pub fn scan<'o>(
         self,
+        tree: Tree,
         range: impl RangeBounds<u64>,
         direction: Direction,
         sift: Sift,
@@ -194,19 +243,19 @@ impl<'a> View<'a> {
     ) -> Result<Scanned<'o>, Refusal> {
         let mut told = [0; 3];
         let (start, end) = (range.start_bound().cloned(), range.end_bound().cloned());
-        let number = raw::scan(self.bytes, start, end, direction == Direction::Down, sift.least(), out, &mut told);
+        let number = raw::scan(self.bytes, tree.number(), start, end, direction == Direction::Down, sift.least(), out, &mut told);
         let [written, more, opened] = told;
         done(number, Scanned { entries: Entries::new(out, written), more: more != 0, opened })
     }
 
-    /// Writes the i-th node of the preorder walk, counted from 0, as a line of hexadecimal without a line feed, and hands back the part
+    /// Writes the i-th node of a tree's preorder walk, counted from 0, as a line of hexadecimal without a line feed, and hands back the part
     /// of the buffer that it occupies. [`LINE_LEN`](crate::LINE_LEN) bytes are enough for any.
     ///
     /// # Errors
     /// [`Refusal::NotSound`], [`Refusal::NoNode`], [`Refusal::LineTooShort`].
-    pub fn frame(self, i: u64, line: &mut [u8]) -> Result<&[u8], Refusal> {
+    pub fn frame(self, tree: Tree, i: u64, line: &mut [u8]) -> Result<&[u8], Refusal> {
         let mut len = 0;
-        let number = raw::frame(self.bytes, i, line, &mut len);
+        let number = raw::frame(self.bytes, tree.number(), i, line, &mut len);
         done(number, &line[..len as usize])
     }
 }

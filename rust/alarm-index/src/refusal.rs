@@ -48,9 +48,10 @@ macro_rules! refusals {
 refusals! {
     1 WrongSetting "a setting or the pool's length is wrong"
     2 NotSound "a pool is not sound"
-    17 SettingsDiffer "the order or the minimum of the two pools differ"
+    19 NoTree "the tree's number is not 0 or 1; a call that is given a `Tree` never gives it"
+    17 SettingsDiffer "the order or the minimum of either tree differs between the two pools"
     18 TargetNotNew "the pool to pack into is not new"
-    3 BatchTooLong "the batch is longer than order"
+    3 BatchTooLong "the batch is longer than the tree's order"
     4 ReferencesDiffer "places, sizes and keys differ in number"
     5 KeysDescend "keys descend somewhere"
     6 TooDeep "the tree has depth 8, and the batch is no Remove"

@@ -1,23 +1,29 @@
 //! Every call through the archive that is linked: what it answers, and that a refusal leaves the lent bytes as they were.
 use alarm_index::{
-    pool_len, raw, write_interior, write_leaf, Action, Branch, Counts, Direction, Entry, Expectation, Frame, Operation, Pool, Reference,
-    Refusal, Settings, Sift, Totals, View, ENTRY_LEN, FRAME_ENTRIES, LAYOUT, LINE_LEN,
+    pool_len, raw, write_interior, write_leaf, Action, Branch, Counts, Direction, Entry, Expectation, Frame, Limits, Operation, Pool,
+    Reference, Refusal, Settings, Sift, Totals, Tree, View, ENTRY_LEN, FRAME_ENTRIES, LAYOUT, LINE_LEN,
 };
 use std::ops::Bound::{Excluded, Included, Unbounded};
 
-const DESK: Settings = Settings { nodes: 16, order: 4, minimum: 2 };
-const LEN: usize = pool_len(16, 4);
+use alarm_index::Tree::{First, Second};
+
+const LIMITS: Limits = Limits { order: 4, minimum: 2 };
+const DESK: Settings = Settings { nodes: 16, first: LIMITS, second: LIMITS };
+const LEN: usize = pool_len(16, 4, 4);
+const TREES: [Tree; 2] = [First, Second];
 
 fn entry(key: u64) -> Entry {
     Entry { key, place: 256 + key, size: 16 }
 }
 
-/// The desk's pool with the keys 1 to 5, key k at place 256 + k and of size 16: leaves 1, 2, 3 and 4, 5.
+/// The desk's pool with the keys 1 to 5 in its first tree, key k at place 256 + k and of size 16: leaves 1, 2, 3 and 4, 5. In its second tree is
+/// key 9, of size 7.
 fn p() -> [u8; LEN] {
     let mut bytes = [170; LEN];
     let mut pool = Pool::open(&mut bytes, DESK).expect("opened");
-    pool.set_each(&[1, 2, 3, 4], &[257, 258, 259, 260], &[16; 4]).expect("done");
-    pool.set_each(&[5], &[261], &[16]).expect("done");
+    pool.set_each(First, &[1, 2, 3, 4], &[257, 258, 259, 260], &[16; 4]).expect("done");
+    pool.set_each(First, &[5], &[261], &[16]).expect("done");
+    pool.set(Second, &[9], Reference { place: 265, size: 7 }).expect("done");
     bytes
 }
 
@@ -28,18 +34,21 @@ fn counts(added: u64, replaced: u64, removed: u64, nothing: u64) -> Counts {
 /// Keys, whether another was due, and nodes opened.
 fn seen(bytes: &[u8], range: impl std::ops::RangeBounds<u64>, direction: Direction, sift: Sift, room: usize) -> (Vec<u64>, bool, u64) {
     let mut out = vec![0; room * ENTRY_LEN];
-    let s = View::new(bytes).scan(range, direction, sift, &mut out).expect("scanned");
+    let s = View::new(bytes).scan(First, range, direction, sift, &mut out).expect("scanned");
     (s.entries.map(|e| e.key).collect(), s.more, s.opened)
 }
 
 #[test]
 fn lengths() {
-    for (nodes, order) in [(8, 4), (16, 4), (1000, 7), (16_384, 32)] {
-        let settings = Settings { nodes: nodes as u64, order: order as u64, minimum: 1 };
-        assert_eq!(settings.pool_len(), Some(pool_len(nodes, order)));
+    for (nodes, first, second) in [(8, 4, 4), (16, 4, 5), (1000, 7, 4), (16_384, 32, 32)] {
+        let limits = |order: usize| Limits { order: order as u64, minimum: 1 };
+        let settings = Settings { nodes: nodes as u64, first: limits(first), second: limits(second) };
+        assert_eq!(settings.pool_len(), Some(pool_len(nodes, first, second)));
     }
-    assert_eq!(Settings { minimum: 3, ..DESK }.pool_len(), None);
-    assert_eq!((LEN, pool_len(16_384, 32)), (3360, 25_428_000));
+    let wrong = Limits { minimum: 3, ..LIMITS };
+    assert_eq!(Settings { first: wrong, ..DESK }.pool_len(), None);
+    assert_eq!(Settings { second: wrong, ..DESK }.pool_len(), None);
+    assert_eq!((LEN, pool_len(16_384, 32, 32)), (3392, 25_428_032));
     assert_eq!(p()[..8], LAYOUT.to_le_bytes());
 }
 
@@ -47,7 +56,9 @@ fn lengths() {
 fn opening_is_refused() {
     let mut bytes = [170; LEN];
     assert_eq!(Pool::open(&mut bytes[1..], DESK).err(), Some(Refusal::WrongSetting));
-    assert_eq!(Pool::open(&mut bytes, Settings { order: 3, ..DESK }).err(), Some(Refusal::WrongSetting));
+    let wrong = Limits { order: 3, ..LIMITS };
+    assert_eq!(Pool::open(&mut bytes, Settings { first: wrong, ..DESK }).err(), Some(Refusal::WrongSetting));
+    assert_eq!(Pool::open(&mut bytes, Settings { second: wrong, ..DESK }).err(), Some(Refusal::WrongSetting));
     assert_eq!(Pool::open(&mut [], DESK).err(), Some(Refusal::WrongSetting));
     assert_eq!(bytes, [170; LEN]);
 }
@@ -55,13 +66,57 @@ fn opening_is_refused() {
 #[test]
 fn bytes_that_are_no_pool() {
     let mut bytes = [170; LEN];
-    assert_eq!(View::new(&bytes).totals(), Err(Refusal::NotSound));
-    assert_eq!(View::new(&[]).totals(), Err(Refusal::NotSound));
-    assert_eq!(View::new(&bytes).get(&[1], &mut []).err(), Some(Refusal::NotSound));
-    assert_eq!(View::new(&bytes).scan(.., Direction::Up, Sift::All, &mut []).err(), Some(Refusal::NotSound));
-    assert_eq!(View::new(&bytes).frame(0, &mut []), Err(Refusal::NotSound));
-    assert_eq!(Pool::new(&mut bytes).remove(&[1]), Err(Refusal::NotSound));
+    for tree in TREES {
+        assert_eq!(View::new(&bytes).totals(tree), Err(Refusal::NotSound));
+        assert_eq!(View::new(&[]).totals(tree), Err(Refusal::NotSound));
+        assert_eq!(View::new(&bytes).get(tree, &[1], &mut []).err(), Some(Refusal::NotSound));
+        assert_eq!(View::new(&bytes).scan(tree, .., Direction::Up, Sift::All, &mut []).err(), Some(Refusal::NotSound));
+        assert_eq!(View::new(&bytes).frame(tree, 0, &mut []), Err(Refusal::NotSound));
+        assert_eq!(Pool::new(&mut bytes).remove(tree, &[1]), Err(Refusal::NotSound));
+    }
     assert_eq!(bytes, [170; LEN]);
+
+    // a pool of one tree, as it was up to version 2
+    let mut before = p();
+    before[0] = 1;
+    assert_eq!(View::new(&before).totals(First), Err(Refusal::NotSound));
+}
+
+/// What is done to one tree leaves the other's entries and nodes as they were, but not the number of unused nodes.
+#[test]
+fn two_trees() {
+    let mut bytes = p();
+    let r = Reference { place: 300, size: 20 };
+    assert_eq!(Pool::new(&mut bytes).set(Second, &[1, 2], r), Ok(counts(2, 0, 0, 0)));
+    assert_eq!(View::new(&bytes).totals(First), Ok(Totals { live: 5, dead: 0, size: 80 }));
+    assert_eq!(View::new(&bytes).totals(Second), Ok(Totals { live: 3, dead: 0, size: 47 }));
+    assert_eq!((leaves(&bytes, First), leaves(&bytes, Second)), (vec![vec![1, 2, 3], vec![4, 5]], vec![vec![1, 2, 9]]));
+    let mut out = [0; ENTRY_LEN];
+    let got = View::new(&bytes).get(Second, &[2, 3], &mut out).expect("got");
+    assert!(got.entries.eq([Entry { key: 2, place: 300, size: 20 }]));
+
+    // of eight nodes six are unused, which one key asks for; a tree that is split takes two of them from the other
+    let mut small = [0; pool_len(8, 4, 4)];
+    let mut pool = Pool::open(&mut small, Settings { nodes: 8, ..DESK }).expect("opened");
+    (1..=5).for_each(|k| assert_eq!(pool.set(Second, &[k], r), Ok(counts(1, 0, 0, 0))));
+    assert_eq!(pool.set(First, &[1], r), Err(Refusal::TooFewNodes));
+    assert_eq!(pool.remove(Second, &[4]), Ok(counts(0, 0, 1, 0)));
+    assert_eq!(pool.set(First, &[1], r), Ok(counts(1, 0, 0, 0)));
+
+    // each has its own order
+    let mut wide = [0; pool_len(16, 4, 5)];
+    let settings = Settings { second: Limits { order: 5, minimum: 3 }, ..DESK };
+    let mut pool = Pool::open(&mut wide, settings).expect("opened");
+    assert_eq!(pool.set(First, &[1, 2, 3, 4, 5], r), Err(Refusal::BatchTooLong));
+    assert_eq!(pool.set(Second, &[1, 2, 3, 4, 5], r), Ok(counts(5, 0, 0, 0)));
+}
+
+#[test]
+fn trees_by_number() {
+    for (number, tree) in (0..).zip(TREES) {
+        assert_eq!((tree.number(), u64::from(tree), Tree::from_number(number)), (number, number, Some(tree)));
+    }
+    assert_eq!((Tree::from_number(2), Tree::from_number(u64::MAX)), (None, None));
 }
 
 #[test]
@@ -69,18 +124,18 @@ fn batches() {
     let mut bytes = p();
     let mut pool = Pool::new(&mut bytes);
     let r = Reference { place: 300, size: 20 };
-    assert_eq!(pool.set(&[5, 6, 6], r), Ok(counts(1, 2, 0, 0)));
-    assert_eq!(pool.remove(&[6, 7]), Ok(counts(0, 0, 1, 1)));
-    assert_eq!(pool.compare(&[4, 5], Expectation::Holds(r), Action::Set(entry(5).reference())), Ok(counts(0, 1, 0, 1)));
-    assert_eq!(pool.compare(&[5, 6], Expectation::Absent, Action::Set(r)), Ok(counts(1, 0, 0, 1)));
-    assert_eq!(pool.compare(&[6], Expectation::Holds(r), Action::Remove), Ok(counts(0, 0, 1, 0)));
+    assert_eq!(pool.set(First, &[5, 6, 6], r), Ok(counts(1, 2, 0, 0)));
+    assert_eq!(pool.remove(First, &[6, 7]), Ok(counts(0, 0, 1, 1)));
+    assert_eq!(pool.compare(First, &[4, 5], Expectation::Holds(r), Action::Set(entry(5).reference())), Ok(counts(0, 1, 0, 1)));
+    assert_eq!(pool.compare(First, &[5, 6], Expectation::Absent, Action::Set(r)), Ok(counts(1, 0, 0, 1)));
+    assert_eq!(pool.compare(First, &[6], Expectation::Holds(r), Action::Remove), Ok(counts(0, 0, 1, 0)));
     for none in [
         Operation::Set(r),
         Operation::SetEach { places: &[], sizes: &[] },
         Operation::Remove,
         Operation::Compare(Expectation::Absent, Action::Remove),
     ] {
-        assert_eq!(pool.batch(&[], none), Ok(counts(0, 0, 0, 0)));
+        assert_eq!(pool.batch(First, &[], none), Ok(counts(0, 0, 0, 0)));
     }
     assert_eq!(bytes, p());
 }
@@ -90,16 +145,16 @@ fn batches_are_refused() {
     let mut bytes = p();
     let mut pool = Pool::new(&mut bytes);
     let r = Reference::default();
-    assert_eq!(pool.set(&[1, 2, 3, 4, 5], r), Err(Refusal::BatchTooLong));
-    assert_eq!(pool.set_each(&[1, 2], &[1], &[1, 2]), Err(Refusal::ReferencesDiffer));
-    assert_eq!(pool.set_each(&[1, 2], &[1, 2], &[1]), Err(Refusal::ReferencesDiffer));
-    assert_eq!(pool.remove(&[2, 1]), Err(Refusal::KeysDescend));
+    assert_eq!(pool.set(First, &[1, 2, 3, 4, 5], r), Err(Refusal::BatchTooLong));
+    assert_eq!(pool.set_each(First, &[1, 2], &[1], &[1, 2]), Err(Refusal::ReferencesDiffer));
+    assert_eq!(pool.set_each(First, &[1, 2], &[1, 2], &[1]), Err(Refusal::ReferencesDiffer));
+    assert_eq!(pool.remove(First, &[2, 1]), Err(Refusal::KeysDescend));
     assert_eq!(bytes, p());
 
-    let mut small = [0; pool_len(8, 4)];
+    let mut small = [0; pool_len(8, 4, 4)];
     let mut pool = Pool::open(&mut small, Settings { nodes: 8, ..DESK }).expect("opened");
-    assert_eq!(pool.set(&[1, 2], r), Err(Refusal::TooFewNodes));
-    assert_eq!(pool.set(&[1], r), Ok(counts(1, 0, 0, 0)));
+    assert_eq!(pool.set(First, &[1, 2], r), Err(Refusal::TooFewNodes));
+    assert_eq!(pool.set(First, &[1], r), Ok(counts(1, 0, 0, 0)));
 }
 
 #[test]
@@ -109,7 +164,7 @@ fn packs() {
     let mut target = Pool::open(&mut bytes, DESK).expect("opened");
     assert_eq!(View::new(&source).pack_into(&mut target), Ok(()));
     assert_eq!(View::new(&source).pack_into(&mut target), Err(Refusal::TargetNotNew));
-    assert_eq!(leaves(&bytes), [vec![1, 2, 3, 4], vec![5]]);
+    assert_eq!((leaves(&bytes, First), leaves(&bytes, Second)), (vec![vec![1, 2, 3, 4], vec![5]], vec![vec![9]]));
     assert_eq!(source, p());
 
     let packed = bytes;
@@ -118,46 +173,50 @@ fn packs() {
     assert_eq!(bytes, packed);
 
     // 5 set again leaves its leaf below the minimum, and the two are evened out
-    assert_eq!(Pool::new(&mut bytes).set(&[5], entry(5).reference()), Ok(counts(0, 1, 0, 0)));
-    assert_eq!(leaves(&bytes), [vec![1, 2, 3], vec![4, 5]]);
+    assert_eq!(Pool::new(&mut bytes).set(First, &[5], entry(5).reference()), Ok(counts(0, 1, 0, 0)));
+    assert_eq!(leaves(&bytes, First), [vec![1, 2, 3], vec![4, 5]]);
 
-    // an emptied pool is new
-    Pool::new(&mut bytes).remove(&[1, 2, 3]).expect("done");
-    Pool::new(&mut bytes).remove(&[4, 5]).expect("done");
+    // a pool is new when both its trees are emptied
+    Pool::new(&mut bytes).remove(First, &[1, 2, 3]).expect("done");
+    Pool::new(&mut bytes).remove(First, &[4, 5]).expect("done");
+    assert_eq!(View::new(&source).pack_into(&mut Pool::new(&mut bytes)), Err(Refusal::TargetNotNew));
+    Pool::new(&mut bytes).remove(Second, &[9]).expect("done");
     assert_eq!(View::new(&source).pack_into(&mut Pool::new(&mut bytes)), Ok(()));
     assert_eq!(bytes, packed);
 }
 
 /// The keys of each leaf.
-fn leaves(bytes: &[u8]) -> Vec<Vec<u64>> {
+fn leaves(bytes: &[u8], tree: Tree) -> Vec<Vec<u64>> {
     let mut line = [0; LINE_LEN];
-    let frames = (0..).map_while(|i| View::new(bytes).frame(i, &mut line).ok().map(|l| Frame::read(l).expect("read")));
+    let frames = (0..).map_while(|i| View::new(bytes).frame(tree, i, &mut line).ok().map(|l| Frame::read(l).expect("read")));
     frames.filter_map(|f| if let Frame::Leaf(rows) = f { Some(rows.iter().map(|e| e.key).collect()) } else { None }).collect()
 }
 
 #[test]
 fn packing_is_refused() {
-    let mut source = [0; pool_len(32, 4)];
+    let mut source = [0; pool_len(32, 4, 4)];
     let mut pool = Pool::open(&mut source, Settings { nodes: 32, ..DESK }).expect("opened");
-    (1..=21).for_each(|k| assert_eq!(pool.set(&[k], entry(k).reference()), Ok(counts(1, 0, 0, 0))));
-    let mut bytes = [0; pool_len(9, 5)];
+    (1..=21).for_each(|k| assert_eq!(pool.set(First, &[k], entry(k).reference()), Ok(counts(1, 0, 0, 0))));
+    let mut bytes = [0; pool_len(10, 5, 5)];
     let mut refused = |settings: Settings, holds: bool| {
         let bytes = &mut bytes[..settings.pool_len().expect("in limits")];
         let mut target = Pool::open(bytes, settings).expect("opened");
         if holds {
-            target.set(&[7], Reference::default()).expect("done");
+            target.set(Second, &[7], Reference::default()).expect("done");
         }
         let before = bytes.to_vec();
         let refusal = View::new(&source).pack_into(&mut Pool::new(bytes)).err();
         assert_eq!(refusal.is_some(), bytes == before);
         refusal
     };
-    let small = Settings { nodes: 8, ..DESK };
-    assert_eq!(refused(Settings { order: 5, ..small }, true), Some(Refusal::SettingsDiffer));
-    assert_eq!(refused(Settings { minimum: 1, ..small }, true), Some(Refusal::SettingsDiffer));
+    let small = Settings { nodes: 9, ..DESK };
+    for other in [Limits { order: 5, ..LIMITS }, Limits { minimum: 1, ..LIMITS }] {
+        assert_eq!(refused(Settings { first: other, ..small }, true), Some(Refusal::SettingsDiffer));
+        assert_eq!(refused(Settings { second: other, ..small }, true), Some(Refusal::SettingsDiffer));
+    }
     assert_eq!(refused(small, true), Some(Refusal::TargetNotNew));
     assert_eq!(refused(small, false), Some(Refusal::TooFewNodes));
-    assert_eq!(refused(Settings { nodes: 9, ..DESK }, false), None);
+    assert_eq!(refused(Settings { nodes: 10, ..DESK }, false), None);
 
     let not_new = &mut p();
     assert_eq!(View::new(&[]).pack_into(&mut Pool::new(not_new)), Err(Refusal::NotSound));
@@ -168,11 +227,11 @@ fn packing_is_refused() {
 #[test]
 fn totals_and_dead_entries() {
     let mut bytes = p();
-    assert_eq!(View::new(&bytes).totals(), Ok(Totals { live: 5, dead: 0, size: 80 }));
-    Pool::new(&mut bytes).set(&[2], Reference { place: 0, size: 5 }).expect("done");
-    assert_eq!(View::new(&bytes).totals(), Ok(Totals { live: 4, dead: 1, size: 64 }));
+    assert_eq!(View::new(&bytes).totals(First), Ok(Totals { live: 5, dead: 0, size: 80 }));
+    Pool::new(&mut bytes).set(First, &[2], Reference { place: 0, size: 5 }).expect("done");
+    assert_eq!(View::new(&bytes).totals(First), Ok(Totals { live: 4, dead: 1, size: 64 }));
     let mut out = [0; ENTRY_LEN];
-    let got = View::new(&bytes).get(&[2], &mut out).expect("got");
+    let got = View::new(&bytes).get(First, &[2], &mut out).expect("got");
     assert_eq!(got.entries.map(|e| (e, e.is_live())).collect::<Vec<_>>(), [(Entry { key: 2, place: 0, size: 5 }, false)]);
     assert_eq!(seen(&bytes, .., Direction::Up, Sift::All, 9).0, [1, 3, 4, 5]);
 }
@@ -181,12 +240,12 @@ fn totals_and_dead_entries() {
 fn gets() {
     let bytes = p();
     let mut out = [7; 3 * ENTRY_LEN];
-    let got = View::new(&bytes).get(&[2, 2, 9], &mut out).expect("got");
+    let got = View::new(&bytes).get(First, &[2, 2, 9], &mut out).expect("got");
     assert_eq!((got.entries.len(), got.more), (2, false));
     assert!(got.entries.eq([entry(2), entry(2)]));
     assert_eq!(out[2 * ENTRY_LEN..], [7; ENTRY_LEN]);
-    assert_eq!(View::new(&bytes).get(&[2, 1], &mut out).err(), Some(Refusal::KeysDescend));
-    let full = View::new(&bytes).get(&[1, 2], &mut out[..2 * ENTRY_LEN - 1]).expect("got");
+    assert_eq!(View::new(&bytes).get(First, &[2, 1], &mut out).err(), Some(Refusal::KeysDescend));
+    let full = View::new(&bytes).get(First, &[1, 2], &mut out[..2 * ENTRY_LEN - 1]).expect("got");
     assert!(full.more && full.entries.eq([entry(1)]));
 }
 
@@ -210,7 +269,7 @@ fn scans() {
 fn entries_from_both_ends() {
     let bytes = p();
     let mut out = [0; 9 * ENTRY_LEN];
-    let mut entries = View::new(&bytes).scan(.., Direction::Up, Sift::All, &mut out).expect("scanned").entries;
+    let mut entries = View::new(&bytes).scan(First, .., Direction::Up, Sift::All, &mut out).expect("scanned").entries;
     assert_eq!((entries.next(), entries.next_back(), entries.len()), (Some(entry(1)), Some(entry(5)), 3));
     assert_eq!((entries.nth(1), entries.next(), entries.next(), entries.next_back()), (Some(entry(3)), Some(entry(4)), None, None));
 }
@@ -220,14 +279,14 @@ fn frames() {
     let bytes = p();
     let mut line = [b'~'; LINE_LEN];
     let leaf = "0100000000000000040000000000000104000000100000000000000005000000000000010500000010";
-    assert_eq!(View::new(&bytes).frame(2, &mut line), Ok(leaf.as_bytes()));
+    assert_eq!(View::new(&bytes).frame(First, 2, &mut line), Ok(leaf.as_bytes()));
     assert_eq!(line[leaf.len()..], [b'~'; LINE_LEN][leaf.len()..]);
-    assert_eq!(View::new(&bytes).frame(3, &mut line), Err(Refusal::NoNode));
-    assert_eq!(View::new(&bytes).frame(2, &mut line[..81]), Err(Refusal::LineTooShort));
+    assert_eq!(View::new(&bytes).frame(First, 3, &mut line), Err(Refusal::NoNode));
+    assert_eq!(View::new(&bytes).frame(First, 2, &mut line[..81]), Err(Refusal::LineTooShort));
     let Ok(Frame::Leaf(rows)) = Frame::read(leaf.as_bytes()) else { panic!("a leaf") };
     assert_eq!(*rows, [entry(4), entry(5)]);
 
-    let root = View::new(&bytes).frame(0, &mut line).expect("written").to_vec();
+    let root = View::new(&bytes).frame(First, 0, &mut line).expect("written").to_vec();
     let frame = Frame::read(&root).expect("read");
     let Frame::Interior(rows) = frame else { panic!("an interior") };
     let branch = |key, child, live| Branch { key, child, live, dead: 0, size: 16 * u64::from(live) };
@@ -258,10 +317,10 @@ fn frames_are_refused() {
 #[test]
 fn numbers() {
     assert_eq!(Refusal::from_number(0), None);
-    for n in 1..=20 {
+    for n in 1..=21 {
         let refusal = Refusal::from_number(n).expect("a refusal");
         assert_eq!((refusal.number(), u32::from(refusal)), (n, n));
-        assert_eq!(matches!(refusal, Refusal::Other(_)), n > 18);
+        assert_eq!(matches!(refusal, Refusal::Other(_)), n > 19);
         assert!(refusal.to_string().starts_with(&format!("refused as {n}: ")));
     }
     let error: &dyn std::error::Error = &Refusal::TooDeep;
@@ -273,9 +332,14 @@ fn numbers() {
 fn the_raw_calls() {
     let bytes = p();
     let (mut totals, mut told, mut len) = ([7; 3], [7; 2], 7);
-    assert_eq!((raw::totals(&bytes[1..], &mut totals), totals), (2, [7; 3]));
-    assert_eq!((raw::get(&bytes, &[2, 1], &mut [], &mut told), told), (5, [7; 2]));
-    assert_eq!((raw::frame(&bytes, 3, &mut [], &mut len), len), (14, 7));
-    assert_eq!((raw::totals(&bytes, &mut totals), totals), (0, [5, 0, 80]));
+    assert_eq!((raw::totals(&bytes[1..], 2, &mut totals), totals), (2, [7; 3]));
+    for tree in [2, 3, 1 << 32, u64::MAX] {
+        assert_eq!((raw::totals(&bytes, tree, &mut totals), totals), (19, [7; 3]));
+        assert_eq!((raw::get(&bytes, tree, &[2, 1], &mut [], &mut told), told), (19, [7; 2]));
+    }
+    assert_eq!((raw::get(&bytes, 0, &[2, 1], &mut [], &mut told), told), (5, [7; 2]));
+    assert_eq!((raw::frame(&bytes, 0, 3, &mut [], &mut len), len), (14, 7));
+    assert_eq!((raw::totals(&bytes, 0, &mut totals), totals), (0, [5, 0, 80]));
+    assert_eq!((raw::totals(&bytes, 1, &mut totals), totals), (0, [1, 0, 7]));
     assert_eq!(raw::pack(&bytes, &mut p()), 18);
 }

@@ -21,8 +21,8 @@ loop-holds c = let p = c .before .before .pre in none-shown _ _ (p .0) (p .1)
 drawn : (c : tie.After-n Inv-loop μ-loop) →
     let made = c .before .before .before .before in
     let loop = made .before .before .before in
-    Frames (loop .before .before .before .args .pool .now) (loop .loop .i) (drop (loop .loop .at) (loop .loop .text)) (Write.Done (c .n .given .0 .0))
-    (made .frame .last .1 .1 .0)
+    Frames (loop .before .before .before .args .pool .now) 0 (loop .loop .i) (drop (loop .loop .at) (loop .loop .text)) (Write.Done (c .n .given .0 .0))
+    (made .frame .last .1 .1 .1 .0)
 drawn c =
     let made = c .before .before .before .before in
     let at = made .before .before .before .loop in
@@ -31,8 +31,8 @@ drawn c =
 undrawn : (c : tie.After-n2 Inv-loop μ-loop) →
     let made = c .before .before .before .before in
     let loop = made .before .before .before in
-    Frames (loop .before .before .before .args .pool .now) (loop .loop .i) (drop (loop .loop .at) (loop .loop .text))
-    (Write.Refused (c .n2 .given .0 .0)) (made .frame .last .1 .1 .0)
+    Frames (loop .before .before .before .args .pool .now) 0 (loop .loop .i) (drop (loop .loop .at) (loop .loop .text))
+    (Write.Refused (c .n2 .given .0 .0)) (made .frame .last .1 .1 .1 .0)
 undrawn c =
     let made = c .before .before .before .before in
     let at = made .before .before .before .loop in
@@ -50,7 +50,7 @@ slice-write-text c =
     let told = c .before in
     let made = told .before .before .before .before in
     let at = made .before .before .before .loop in
-    feed-inside _ _ (at .inv) (drawn told) _ (rest-put (at .text) (at .at) (made .frame .last .1 .1 .0))
+    feed-inside _ _ (at .inv) (drawn told) _ (rest-put (at .text) (at .at) (made .frame .last .1 .1 .1 .0))
 
 add-at : tie.Need-add-at Inv-loop μ-loop
 add-at c = search (needs, ends (c .before))
@@ -63,14 +63,14 @@ loop-again c =
     let told = c .before in
     let made = told .before .before .before .before in
     let at = made .before .before .before .loop in
-    one-more _ _ (at .inv) (drawn told) _ (rest-put (at .text) (at .at) (made .frame .last .1 .1 .0))
+    one-more _ _ (at .inv) (drawn told) _ (rest-put (at .text) (at .at) (made .frame .last .1 .1 .1 .0))
 
 returns : tie.Need-returns Inv-loop μ-loop
 returns c =
     let told = c .before .before in
     let made = told .before .before .before .before in
     let at = made .before .before .before .loop in
-    ended _ _ (at .inv) (undrawn told) _ (rest-put (at .text) (at .at) (made .frame .last .1 .1 .0)) (c .if1 .taken)
+    ended _ _ (at .inv) (undrawn told) _ (rest-put (at .text) (at .at) (made .frame .last .1 .1 .1 .0)) (c .if1 .taken)
 
 returns-2 : tie.Need-returns-2 Inv-loop μ-loop
 returns-2 c =
@@ -78,7 +78,7 @@ returns-2 c =
     let told = said .before .before .before .before in
     let made = told .before .before .before .before in
     let at = made .before .before .before .loop in
-    refused-at-once _ _ (at .inv) (undrawn told) _ _ _ (rest-put (at .text) (at .at) (made .frame .last .1 .1 .0)) (said .before .before .if1 .left)
+    refused-at-once _ _ (at .inv) (undrawn told) _ _ _ (rest-put (at .text) (at .at) (made .frame .last .1 .1 .1 .0)) (said .before .before .if1 .left)
     (said .say-refused .ensures .0) (said .say-refused .ensures .1)
 
 returns-3 : tie.Need-returns-3 Inv-loop μ-loop

@@ -1,29 +1,29 @@
--- `scan` meets its contract: the survey tells whether the pool is sound; where it is not the call refuses (`scan-unsound`), and where it is what was
--- written, and the nodes that were opened, are the model's (`scan-told`). Assumes nothing.
+-- `scan` meets its contract: where the tree was not found the call refuses (`scan-refused`), and where it was what was written, and the nodes that were
+-- opened, are the model's (`scan-told`). Assumes nothing.
 use borrow.Author.Needs.{needs}
 use Rattle.model.specs.Look.{requestFor}
-use Rattle.survey.proofs.Founds.{unsound, sound, in-pool}
-use Rattle.index_look.proofs.Keeps.{scan-unsound, scan-told}
+use Rattle.index_look.proofs.Keeps.{scan-refused, scan-told}
 use Rattle.index_look.proofs.scan.Statement.{statement}
 use Rattle.index_look.proofs.scan.Tie as tie
 
 returns : tie.Need-returns
 returns c =
-    let a = c .before .before .before .before .before .args in
-    scan-unsound _ (requestFor (a .start) (a .end) (a .direction) (a .sift)) _ (unsound (c .before .before .survey .ensures) (c .if1 .taken))
+    let searched = c .before .before in
+    let a = searched .before .before .before .args in
+    scan-refused (a .tree) (searched .find .ensures .refusal) (c .if1 .taken) (requestFor (a .start) (a .end) (a .direction) (a .sift)) _
 
 scan-requires : tie.Need-scan-requires
 scan-requires c κs =
-    let checked = c .before .before in
-    in-pool (checked .before .before .survey .ensures) (checked .if1 .left)
+    let test = c .before .before in
+    test .before .before .find .ensures .tree (test .if1 .left) .pool
 
 returns-2 : tie.Need-returns-2
 returns-2 c =
-    let checked = c .before .before .before .before .before in
-    let a = checked .before .before .before .before .before .args in
+    let test = c .before .before .before .before .before in
+    let searched = test .before .before in
+    let a = searched .before .before .before .args in
     let told = c .before .before .scan .ensures in
-    scan-told _ (requestFor (a .start) (a .end) (a .direction) (a .sift)) _ _ _ (sound (checked .before .before .survey .ensures) (checked .if1 .left))
-    (told .0) (told .1)
+    scan-told (searched .find .ensures .tree (test .if1 .left)) (requestFor (a .start) (a .end) (a .direction) (a .sift)) _ _ _ (told .0) (told .1)
 
 pub scan-spec : {M : Type 1} → statement M
 scan-spec =

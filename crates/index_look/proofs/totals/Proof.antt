@@ -1,19 +1,22 @@
--- `totals` meets its contract: the survey tells whether the pool is sound; where it is not the call refuses (`totals-unsound`), and where it is the
--- totals are the model's (`totals-told`). Assumes nothing.
+-- `totals` meets its contract: where the tree was not found the call refuses (`totals-refused`), and where it was the totals are the model's
+-- (`totals-told`). Assumes nothing.
 use borrow.Author.Needs.{needs}
-use Rattle.survey.proofs.Founds.{unsound, sound, in-pool}
-use Rattle.index_look.proofs.Keeps.{totals-unsound, totals-told}
+use Rattle.index_look.proofs.Keeps.{totals-refused, totals-told}
 use Rattle.index_look.proofs.totals.Statement.{statement}
 use Rattle.index_look.proofs.totals.Tie as tie
 
 returns : tie.Need-returns
-returns c = totals-unsound _ (unsound (c .before .before .survey .ensures) (c .if1 .taken))
+returns c =
+    let searched = c .before .before in
+    totals-refused (searched .before .before .args .tree) (searched .find .ensures .refusal) (c .if1 .taken)
 
 totals-requires : tie.Need-totals-requires
-totals-requires c κs = in-pool (c .before .before .before .survey .ensures) (c .before .if1 .left)
+totals-requires c κs = c .before .before .before .find .ensures .tree (c .before .if1 .left) .pool
 
 returns-2 : tie.Need-returns-2
-returns-2 c = totals-told _ _ (sound (c .before .before .before .before .survey .ensures) (c .before .before .if1 .left)) (c .totals .ensures)
+returns-2 c =
+    let test = c .before .before in
+    totals-told (test .before .before .find .ensures .tree (test .if1 .left)) _ (c .totals .ensures)
 
 pub totals-spec : {M : Type 1} → statement M
 totals-spec =

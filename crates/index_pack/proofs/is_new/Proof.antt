@@ -1,19 +1,34 @@
--- `is_new` meets its contract: a tree that is no leaf is not new (`tall-not-new`), and a leaf is where it has no rows (`leaf-new`). Assumes nothing.
-use Rattle.look.proofs.Sounds.{pool-weighs}
-use Rattle.index_pack.proofs.Asks.{tall-not-new, leaf-new}
+-- `is_new` meets its contract: the first tree tells that it is not (`first-old`), or else the second tells (`second-tells`). Assumes nothing.
+use Rattle.index_pack.proofs.Finds.{found-limits, first-in, second-in, first-old, second-tells}
 use Rattle.index_pack.proofs.is_new.Statement.{statement}
 use Rattle.index_pack.proofs.is_new.Tie as tie
 
-returns : tie.Need-returns
-returns c = tall-not-new _ _ _ (c .before .before .pre) (c .if1 .taken)
+handed-requires : tie.Need-handed-requires
+handed-requires c κs = found-limits (c .before .pre)
 
-count-requires : tie.Need-count-requires
-count-requires c κs = let w = pool-weighs _ _ _ (c .before .before .pre) in record { held = w .held; slot = w .slot }
+is-bare-requires : tie.Need-is-bare-requires
+is-bare-requires c κs = first-in (c .before .before .pre) (c .handed .result) (c .handed .ensures)
+
+returns : tie.Need-returns
+returns c =
+    let asked = c .before in
+    let st = asked .before in
+    first-old (st .before .before .pre) (st .handed .result) (st .handed .ensures) (asked .is-bare .result) (asked .is-bare .ensures) (c .if1 .taken)
+
+handed-requires-2 : tie.Need-handed-requires-2
+handed-requires-2 c κs = found-limits (c .before .before .before .before .pre)
+
+is-bare-requires-2 : tie.Need-is-bare-requires-2
+is-bare-requires-2 c κs = second-in (c .before .before .before .before .before .pre) (c .handed2 .result) (c .handed2 .ensures)
 
 returns-2 : tie.Need-returns-2
 returns-2 c =
-    let low = c .before in
-    leaf-new _ _ _ (low .before .before .pre) (low .if1 .left) (c .count .result) (c .count .ensures .is)
+    let su = c .before in
+    let bare = su .before in
+    let asked = bare .before in
+    let st = asked .before in
+    second-tells (st .before .before .pre) (st .handed .result) (st .handed .ensures) (asked .is-bare .result) (asked .is-bare .ensures) (bare .if1 .left)
+    (su .handed2 .result) (su .handed2 .ensures) (c .is-bare2 .result) (c .is-bare2 .ensures)
 
 pub is-new-spec : {M : Type 1} → statement M
-is-new-spec = tie.close (tie.spec returns count-requires returns-2)
+is-new-spec = tie.close (tie.spec handed-requires is-bare-requires returns handed-requires-2 is-bare-requires-2 returns-2)

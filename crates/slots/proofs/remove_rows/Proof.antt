@@ -9,38 +9,36 @@ use Rattle.slots.proofs.remove_rows.Tie as tie
 
 returns : tie.Need-returns
 returns c =
-    let headed = c .before .before in
-    let cleared = headed .before .before .before .before in
+    let counted = c .before .before in
+    let cleared = counted .before .before .before .before in
     let moved = cleared .before .before .before .before in
-    let k = moved .before .before .kind in
-    let n = moved .before .before .before .before .count in
-    let start = moved .before .before .before .before .before .before .before in
+    let n = moved .before .before .count in
+    let start = moved .before .before .before .before .before in
     let a = start .args in
-    closed-by (a .st) (words (a .pool .now)) (words (moved .raw-move .last .0)) (words (cleared .raw-clear .last .0)) (words (headed .raw-head .last .0))
-    (a .s) (k .result) (n .result) (start .pre .slot) (start .pre .held) (k .ensures) (n .ensures .is) (a .i) (a .a) (omega arith)
-    (moved .raw-move .ensures) (cleared .raw-clear .ensures) (headed .raw-head .ensures)
+    closed-by (a .st) (words (a .pool .now)) (words (moved .raw-move .last .0)) (words (cleared .raw-clear .last .0)) (words (counted .raw-put-count .last .0))
+    (a .s) (n .result) (start .pre .slot) (start .pre .held) (n .ensures .is) (a .i) (a .a) (omega arith)
+    (moved .raw-move .ensures) (cleared .raw-clear .ensures) (counted .raw-put-count .ensures)
 
 raw-move-requires : tie.Need-raw-move-requires
 raw-move-requires c κs =
-    let start = c .before .before .before .before .before .before in
+    let start = c .before .before .before .before in
     (record { shape = start .pre .held .shape; slot = start .pre .slot; within = omega arith }, record { shape = start .pre .held .shape; slot = start .pre .slot; within = omega arith })
 
 raw-clear-requires : tie.Need-raw-clear-requires
 raw-clear-requires c κs =
     let moved = c .before .before .before in
-    record { shape = moved .raw-move .ensures .shape; slot = moved .before .before .before .before .before .before .before .pre .slot; within = omega arith }
+    record { shape = moved .raw-move .ensures .shape; slot = moved .before .before .before .before .before .pre .slot; within = omega arith }
 
-raw-head-requires : tie.Need-raw-head-requires
-raw-head-requires c κs =
+raw-put-count-requires : tie.Need-raw-put-count-requires
+raw-put-count-requires c κs =
     let cleared = c .before .before .before in
     let moved = cleared .before .before .before .before in
-    (cleared .raw-clear .ensures .shape, moved .before .before .before .before .before .before .before .pre .slot)
+    (cleared .raw-clear .ensures .shape, moved .before .before .before .before .before .pre .slot)
 
 pub remove-rows-spec : {M : Type 1} → statement M
 remove-rows-spec =
     tie.close
     (tie.spec
-    (λ c κs. search needs)
     (λ c κs. search needs)
     (λ c. search needs)
     (λ c. search needs)
@@ -49,6 +47,6 @@ remove-rows-spec =
     (λ c. search needs)
     raw-clear-requires
     (λ c. search needs)
-    raw-head-requires
+    raw-put-count-requires
     (λ c. search needs)
     returns)

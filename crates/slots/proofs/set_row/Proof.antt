@@ -19,7 +19,7 @@ returns c =
     let put = c .before .before in
     let start = put .before .before .before in
     let a = start .args in
-    row-now (a .st) (words (a .pool .now)) (words (put .raw-put .last .0)) (a .s) _ _ (start .pre .slot) (start .pre .held) refl refl
+    row-now (a .st) (words (a .pool .now)) (words (put .raw-put .last .0)) (a .s) _ (start .pre .slot) (start .pre .held) refl
     (a .i) (a .row) (omega arith) (put .raw-put .ensures)
 
 pub set-row-spec : {M : Type 1} → statement M

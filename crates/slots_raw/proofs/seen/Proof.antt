@@ -1,5 +1,5 @@
 -- `seen` meets its contract, case by case. Assumes nothing.
-use mathlib.Core.Path.{refl, sym, ap, _∙_}
+use mathlib.Core.Path.{sym, ap, _∙_}
 use native.Mathlib.Omega.{arith}
 use Prim.Native.Nat.{ℕ}
 use Rattle.slots_raw.specs.Slots as Slots

@@ -5,7 +5,7 @@ use native.Mathlib.Omega.{arith}
 use lib.ListN.{length}
 use borrow.Author.Needs.{needs}
 use borrow.Author.Tests.{not-true, not-false}
-use Rattle.model.specs.Sound.{handed, InLimits}
+use Rattle.model.specs.Sound.{PoolLimits}
 use Rattle.tree.specs.Pool.{poolLen}
 use Rattle.tree.proofs.Pools.{exact-shape}
 use Rattle.tree.proofs.Opening.{new-image}
@@ -37,13 +37,14 @@ open-pool-requires c κs =
     let a = c .before .before .before .before .before .before .args in
     let test = c .before .before .before .before .in-limits in
     let exact : length (a .pool .now) ≡ poolLen (a .given) = omega (arith, c .before .before .pool-len .ensures) in
-    exact-shape (a .given) (a .pool .now) (test .ensures .holds (not-false (test .result) (c .before .before .before .if1 .left))) exact
+    let lim : PoolLimits (a .given) = test .ensures .holds (not-false (test .result) (c .before .before .before .if1 .left)) in
+    (lim, exact-shape (a .given) 0 (a .pool .now) lim exact)
 
 returns-3 : tie.Need-returns-3
 returns-3 c =
     let a = c .before .before .before .before .before .before .before .before .before .args in
     let test = c .before .before .before .before .before .before .before .in-limits in
-    let lim : InLimits (handed (a .given)) = test .ensures .holds (not-false (test .result) (c .before .before .before .before .before .before .if1 .left)) in
+    let lim : PoolLimits (a .given) = test .ensures .holds (not-false (test .result) (c .before .before .before .before .before .before .if1 .left)) in
     let exact : length (a .pool .now) ≡ poolLen (a .given) = omega (arith, c .before .before .before .before .before .pool-len .ensures) in
     let made = c .before .before .open-pool in
     record {

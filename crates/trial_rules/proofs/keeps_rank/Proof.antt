@@ -5,10 +5,10 @@ use Rattle.trial_rules.proofs.keeps_rank.Statement.{statement}
 use Rattle.trial_rules.proofs.keeps_rank.Tie as tie
 
 abbrev Inv-loop : tie.InvT-loop
-Inv-loop pool order s was v j₀ j = Unit {0}
+Inv-loop pool of kind s was v rows j₀ j = Unit {0}
 
 abbrev μ-loop : tie.MeasureT-loop
-μ-loop pool order s was v j₀ j = order - j
+μ-loop pool of kind s was v rows j₀ j = rows - j
 
 pub keeps-rank-spec : {M : Type 1} → statement M
 keeps-rank-spec =
@@ -18,6 +18,7 @@ keeps-rank-spec =
     μ-loop
     (λ c κs. search needs)
     (λ c. search needs)
+    (λ c κs. search needs)
     (λ c. search needs)
     (λ c κs. search needs)
     (λ c. search needs)

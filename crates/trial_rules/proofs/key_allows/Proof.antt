@@ -5,10 +5,10 @@ use Rattle.trial_rules.proofs.key_allows.Statement.{statement}
 use Rattle.trial_rules.proofs.key_allows.Tie as tie
 
 abbrev Inv-loop : tie.InvT-loop
-Inv-loop pool nodes order slot row was v s₀ s = Unit {0}
+Inv-loop pool of slot row was v kind s₀ s-end s = Unit {0}
 
 abbrev μ-loop : tie.MeasureT-loop
-μ-loop pool nodes order slot row was v s₀ s = nodes - s
+μ-loop pool of slot row was v kind s₀ s-end s = s-end - s
 
 pub key-allows-spec : {M : Type 1} → statement M
 key-allows-spec =
@@ -16,6 +16,8 @@ key-allows-spec =
     (tie.spec
     Inv-loop
     μ-loop
+    (λ c κs. search needs)
+    (λ c κs. search needs)
     (λ c κs. search needs)
     (λ c. search needs)
     (λ c. search needs)

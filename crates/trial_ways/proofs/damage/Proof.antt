@@ -7,10 +7,10 @@ use Rattle.trial_ways.proofs.damage.Statement.{statement}
 use Rattle.trial_ways.proofs.damage.Tie as tie
 
 abbrev Inv-loop : tie.InvT-loop
-Inv-loop pool₀ nodes order n t₀ i₀ pool t i = (length pool ≡ length pool₀)
+Inv-loop pool₀ of n t₀ i₀ pool t i = (length pool ≡ length pool₀)
 
 abbrev μ-loop : tie.MeasureT-loop
-μ-loop pool₀ nodes order n t₀ i₀ pool t i = n - i
+μ-loop pool₀ of n t₀ i₀ pool t i = n - i
 
 pub damage-spec : {M : Type 1} → statement M
 damage-spec =

@@ -6,9 +6,9 @@ use crate::clock::{nanos, readings, taken, turns, Readings};
 use nebari_v3::Tree;
 use oracle::random::Random;
 use oracle::Library;
+use plain::forest::Forest;
 use plain::pool::image;
-use plain::tree::Index;
-use plain::{Bound, Call, Operation, Reference, Request, Settings};
+use plain::{Bound, Call, Operation, PoolSettings, Reference, Request};
 use std::collections::BTreeMap;
 use std::hint::black_box;
 use std::time::Duration;
@@ -19,8 +19,8 @@ type Map = BTreeMap<u64, Reference>;
 
 /// The three stores, filled alike.
 struct Filled {
-    settings: Settings,
-    index: Index,
+    settings: PoolSettings,
+    forest: Forest,
     pool: Vec<u8>,
     tree: Tree,
     map: Map,
@@ -36,9 +36,9 @@ pub fn table(lib: &dyn Library, time: Duration) {
     for order in [4, 16, 32] {
         for nodes in [64, 1024, 16_384] {
             for ascending in [false, true] {
-                let st = Settings { nodes, order, minimum: order / 2 };
+                let ps = PoolSettings::alike(nodes, order, order / 2);
                 // own times are small differences of large ones where the pool is large, and need more readings
-                row(lib, fill(st, ascending), ascending, if nodes == 16_384 { 10 * time } else { time }, time);
+                row(lib, fill(ps, ascending), ascending, if nodes == 16_384 { 10 * time } else { time }, time);
             }
         }
     }
@@ -50,10 +50,10 @@ fn row(lib: &dyn Library, mut f: Filled, ascending: bool, own: Duration, time: D
     let n = f.held.len();
     println!(
         "| {} | {} | {} | {n} | {} | {}, {}, {} | {set} | {remove} | {get} | {scan} |",
-        f.settings.order,
+        f.settings.trees[0].order,
         f.settings.nodes,
         if ascending { "ascending" } else { "random" },
-        f.index.depth(),
+        f.forest.roots[0].depth(),
         f.pool.len() / n,
         f.heap[0] / n,
         f.heap[1] / n,
@@ -74,33 +74,34 @@ fn key(ascending: bool, i: u64) -> u64 {
     }
 }
 
-/// Filled by batches of KEYS until half of the nodes are used, or depth 8, at which no more is set, comes near.
-fn fill(st: Settings, ascending: bool) -> Filled {
-    let mut index = Index::new(st.nodes);
+/// Tree 0 filled by batches of KEYS until half of the nodes are used, or depth 8, at which no more is set, comes near. Tree 1 is one empty leaf.
+fn fill(ps: PoolSettings, ascending: bool) -> Filled {
+    let mut forest = Forest::new(ps.nodes);
     let mut calls = vec![];
     let mut next = 0;
-    while index.unused.len() * 2 > st.nodes && (index.depth() < 7 || index.root.len() + 1 < st.order) {
+    let order = ps.trees[0].order;
+    while forest.unused.len() * 2 > ps.nodes && (forest.roots[0].depth() < 7 || forest.roots[0].len() + 1 < order) {
         let mut keys: Vec<u64> = (0..KEYS as u64).map(|i| key(ascending, next + i)).collect();
         next += KEYS as u64;
         keys.sort_unstable();
         let c = Call::set(&keys, 256, 16);
-        if plain::refuse::refusal(&st, &c, &index) != 0 {
+        if plain::refuse::batch_refusal(&ps, 0, &c, &forest) != 0 {
             break;
         }
-        index = plain::change::batch(&st, &c, index).0;
+        forest.batch(&ps, 0, &c);
         calls.push(keys);
     }
     let r = Reference { place: 256, size: 16 };
     let before = taken();
-    let mut tree = Tree::open(st.order, st.minimum);
+    let mut tree = Tree::open(order, ps.trees[0].minimum);
     for keys in &calls {
         tree.batch(keys, Operation::Set(r), &[]).expect("done");
     }
     let with_tree = taken();
     let map: Map = calls.iter().flatten().map(|&k| (k, r)).collect();
     let heap = [with_tree - before, taken() - with_tree];
-    let held = index.entries().iter().map(|e| e.key).collect();
-    Filled { settings: st, pool: image(&st, &index), index, tree, map, held, heap }
+    let held = forest.roots[0].entries().iter().map(|e| e.key).collect();
+    Filled { settings: ps, pool: image(&ps, &forest), forest, tree, map, held, heap }
 }
 
 fn sorted(r: &mut Random, n: usize, mut one: impl FnMut(&mut Random) -> u64) -> Vec<u64> {
@@ -112,7 +113,7 @@ fn sorted(r: &mut Random, n: usize, mut one: impl FnMut(&mut Random) -> u64) -> 
 /// A call that ends after the soundness test.
 fn refused(lib: &dyn Library, pool: &mut [u8], long: &[u64]) -> f64 {
     let mut counts = [0; 4];
-    nanos(|| assert_eq!(black_box(lib.remove(pool, long, &mut counts)), 3))
+    nanos(|| assert_eq!(black_box(lib.remove(pool, 0, long, &mut counts)), 3))
 }
 
 /// The own time of a call.
@@ -124,7 +125,7 @@ fn own(lib: &dyn Library, pool: &mut [u8], long: &[u64], call: impl FnOnce(&mut 
 
 /// Setting new keys, and removing them again.
 fn batches(lib: &dyn Library, f: &mut Filled, ascending: bool, own_time: Duration, time: Duration) -> [String; 2] {
-    let long = vec![0; f.settings.order + 1];
+    let long = vec![0; f.settings.trees[0].order + 1];
     let mut r = Random::new(7);
     let top = *f.held.last().expect("filled");
     let fresh = |r: &mut Random| -> Vec<u64> {
@@ -144,8 +145,8 @@ fn batches(lib: &dyn Library, f: &mut Filled, ascending: bool, own_time: Duratio
             f.pool.copy_from_slice(&filled);
         }
         let keys = fresh(&mut r);
-        set.add(own(lib, &mut f.pool, &long, |p| assert_eq!(lib.set(p, &keys, 256, 16, &mut counts), 0)));
-        gone.add(own(lib, &mut f.pool, &long, |p| assert_eq!(lib.remove(p, &keys, &mut counts), 0)));
+        set.add(own(lib, &mut f.pool, &long, |p| assert_eq!(lib.set(p, 0, &keys, 256, 16, &mut counts), 0)));
+        gone.add(own(lib, &mut f.pool, &long, |p| assert_eq!(lib.remove(p, 0, &keys, &mut counts), 0)));
     });
     turns(time, |_| {
         let keys = fresh(&mut r);
@@ -161,14 +162,14 @@ fn batches(lib: &dyn Library, f: &mut Filled, ascending: bool, own_time: Duratio
 }
 
 fn gets(lib: &dyn Library, f: &mut Filled, own_time: Duration, time: Duration) -> String {
-    let long = vec![0; f.settings.order + 1];
+    let long = vec![0; f.settings.trees[0].order + 1];
     let mut r = Random::new(8);
     let mut out = vec![0; 24 * LISTED];
     let mut told = [0; 2];
     let some = |r: &mut Random| sorted(r, LISTED, |r| f.held[r.below(f.held.len())]);
     let own = readings(own_time, || {
         let keys = some(&mut r);
-        own(lib, &mut f.pool, &long, |p| assert_eq!(lib.get(p, &keys, &mut out, &mut told), 0))
+        own(lib, &mut f.pool, &long, |p| assert_eq!(lib.get(p, 0, &keys, &mut out, &mut told), 0))
     });
     let tree = readings(time, || {
         let keys = some(&mut r);
@@ -182,7 +183,7 @@ fn gets(lib: &dyn Library, f: &mut Filled, own_time: Duration, time: Duration) -
 }
 
 fn scans(lib: &dyn Library, f: &mut Filled, own_time: Duration, time: Duration) -> String {
-    let long = vec![0; f.settings.order + 1];
+    let long = vec![0; f.settings.trees[0].order + 1];
     let mut r = Random::new(9);
     let mut out = vec![0; 24 * LISTED];
     let mut told = [0; 3];
@@ -190,7 +191,7 @@ fn scans(lib: &dyn Library, f: &mut Filled, own_time: Duration, time: Duration) 
     let request = |key| Request { start: Bound::Included(key), end: Bound::Unbounded, down: false, least: 0 };
     let own = readings(own_time, || {
         let q = request(from(&mut r));
-        own(lib, &mut f.pool, &long, |p| assert_eq!(lib.scan(p, &q, &mut out, &mut told), 0))
+        own(lib, &mut f.pool, &long, |p| assert_eq!(lib.scan(p, 0, &q, &mut out, &mut told), 0))
     });
     let tree = readings(time, || {
         let q = request(from(&mut r));

@@ -2,9 +2,10 @@
 use crate::clock::{nanos, readings};
 use oracle::random::Random;
 use oracle::{trees, Library};
+use plain::forest::Forest;
 use plain::pool::image;
-use plain::tree::{Index, Node};
-use plain::{Bound, Entry, Request, Settings};
+use plain::tree::Node;
+use plain::{Bound, Entry, PoolSettings, Request};
 use std::hint::black_box;
 use std::time::Duration;
 
@@ -23,32 +24,32 @@ pub fn table(lib: &dyn Library, time: Duration) {
     for order in [4, 16, 32] {
         for nodes in [16, 64, 1024, 16_384] {
             for layout in [Layout::InOrder, Layout::Scattered] {
-                row(lib, time, Settings { nodes, order, minimum: order / 2 }, layout);
+                row(lib, time, PoolSettings::alike(nodes, order, order / 2), layout);
             }
         }
     }
 }
 
 /// What the test costs is what totals cost, which only reads the root's rows besides. The list is a scan of everything, less the test.
-fn row(lib: &dyn Library, time: Duration, st: Settings, layout: Layout) {
-    let index = full(&st, layout);
-    let entries = index.entries().len();
-    let pool = image(&st, &index);
+fn row(lib: &dyn Library, time: Duration, ps: PoolSettings, layout: Layout) {
+    let forest = full(&ps, layout);
+    let entries = forest.roots[0].entries().len();
+    let pool = image(&ps, &forest);
     let mut out = vec![0; 24 * entries];
     let all = Request { start: Bound::Unbounded, end: Bound::Unbounded, down: false, least: 0 };
     let (mut totals, mut told) = ([0; 3], [0; 3]);
     let sum = readings(time, || nanos(|| _ = black_box(summed(black_box(&pool))))).median();
-    let test = readings(time, || nanos(|| assert_eq!(black_box(lib.totals(&pool, &mut totals)), 0))).median();
-    let scan = readings(time, || nanos(|| assert_eq!(black_box(lib.scan(&pool, &all, &mut out, &mut told)), 0))).median();
+    let test = readings(time, || nanos(|| assert_eq!(black_box(lib.totals(&pool, 0, &mut totals)), 0))).median();
+    let scan = readings(time, || nanos(|| assert_eq!(black_box(lib.scan(&pool, 0, &all, &mut out, &mut told)), 0))).median();
     println!(
         "| {} | {} | {} | {entries} | {} | {:.1} | {:.2} | {:.2} | {:.1} | {:.2} |",
-        st.order,
-        st.nodes,
+        ps.trees[0].order,
+        ps.nodes,
         match layout {
             Layout::InOrder => "in order",
             Layout::Scattered => "scattered",
         },
-        index.depth(),
+        forest.roots[0].depth(),
         pool.len() as f64 / 1024.0,
         test / 1000.0,
         sum / 1000.0,
@@ -61,19 +62,20 @@ fn summed(pool: &[u8]) -> u64 {
     pool.chunks_exact(8).fold(0u64, |s, w| s.wrapping_add(u64::from_le_bytes(w.try_into().expect("eight"))))
 }
 
-/// A tree of full leaves and of interiors as full as they can be alike, as large as fits: at most a few slots stay unused. One entry in
-/// four is dead.
-pub fn full(st: &Settings, layout: Layout) -> Index {
+/// In tree 0, full leaves, and interiors as full as they can be alike, as many as fit: at most a few slots stay unused. One entry in four is dead.
+/// Tree 1 is one empty leaf.
+pub fn full(ps: &PoolSettings, layout: Layout) -> Forest {
+    let order = ps.trees[0].order;
     let mut leaves = 1;
-    while nodes_over(leaves + 1, st.order) <= st.nodes {
+    while nodes_over(leaves + 1, order) < ps.nodes {
         leaves += 1;
     }
-    let mut level: Vec<Node> = (0..leaves).map(|i| Node::leaf(0, (0..st.order).map(|j| entry((i * st.order + j) as u64)).collect())).collect();
+    let mut level: Vec<Node> = (0..leaves).map(|i| Node::leaf(0, (0..order).map(|j| entry((i * order + j) as u64)).collect())).collect();
     while level.len() > 1 {
-        level = parents(level, st.order);
+        level = parents(level, order);
     }
     let mut random = Random::new(5);
-    trees::placed(level.remove(0), st.nodes, matches!(layout, Layout::Scattered).then_some(&mut random))
+    trees::planted([level.remove(0), trees::empty()], ps.nodes, matches!(layout, Layout::Scattered).then_some(&mut random))
 }
 
 fn entry(i: u64) -> Entry {

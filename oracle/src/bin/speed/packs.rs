@@ -5,10 +5,11 @@
 use crate::clock::{nanos, readings};
 use crate::full::{full, Layout};
 use oracle::Library;
+use plain::forest::Forest;
 use plain::pack::packed;
 use plain::pool::image;
-use plain::tree::{Index, Items, Node};
-use plain::{Reference, Settings};
+use plain::tree::{Items, Node};
+use plain::{PoolSettings, Reference};
 use std::collections::BTreeMap;
 use std::hint::black_box;
 use std::time::Duration;
@@ -20,19 +21,19 @@ pub fn table(lib: &dyn Library, time: Duration) {
     println!("|---|---|---|---|---|---|---|---|---|---|");
     for order in [4, 16, 32] {
         for nodes in [1024, 16_384] {
-            let st = Settings { nodes, order, minimum: order / 2 };
-            let (in_order, scattered) = (full(&st, Layout::InOrder), full(&st, Layout::Scattered));
-            row(lib, time, st, "full", &in_order, mapped(&in_order));
+            let ps = PoolSettings::alike(nodes, order, order / 2);
+            let (in_order, scattered) = (full(&ps, Layout::InOrder), full(&ps, Layout::Scattered));
+            row(lib, time, ps, "full", &in_order, mapped(&in_order));
             let mut worn = scattered;
             let mut map = mapped(&worn);
-            thin(&mut worn.root, &mut map);
-            row(lib, time, st, "worn", &worn, map);
+            thin(&mut worn.roots[0], &mut map);
+            row(lib, time, ps, "worn", &worn, map);
         }
     }
 }
 
-fn mapped(x: &Index) -> Map {
-    x.entries().iter().map(|e| (e.key, e.reference())).collect()
+fn mapped(f: &Forest) -> Map {
+    f.roots[0].entries().iter().map(|e| (e.key, e.reference())).collect()
 }
 
 /// Every second entry of each leaf goes, and goes out of the map.
@@ -52,9 +53,10 @@ fn thin(n: &mut Node, map: &mut Map) {
     }
 }
 
-fn row(lib: &dyn Library, time: Duration, st: Settings, pool: &str, x: &Index, map: Map) {
-    let (source, new) = (image(&st, x), image(&st, &Index::new(st.nodes)));
-    let entries = x.entries();
+fn row(lib: &dyn Library, time: Duration, ps: PoolSettings, pool: &str, f: &Forest, map: Map) {
+    let (source, new) = (image(&ps, f), image(&ps, &Forest::new(ps.nodes)));
+    let tree = &f.roots[0];
+    let entries = tree.entries();
     assert_eq!(map.len(), entries.len());
     let mut target = new.clone();
     let mut totals = [0; 3];
@@ -62,22 +64,22 @@ fn row(lib: &dyn Library, time: Duration, st: Settings, pool: &str, x: &Index, m
         target.copy_from_slice(&new);
         nanos(|| assert_eq!(black_box(lib.pack(&source, &mut target)), 0))
     });
-    let tests = readings(time, || [&source, &new].into_iter().map(|pool| nanos(|| assert_eq!(black_box(lib.totals(pool, &mut totals)), 0))).sum());
+    let tests = readings(time, || [&source, &new].into_iter().map(|pool| nanos(|| assert_eq!(black_box(lib.totals(pool, 0, &mut totals)), 0))).sum());
     let built = readings(time, || {
         let mut anew = Map::new();
         // what it held before is nothing, and what it holds then is dropped when the time is taken
         nanos(|| anew = black_box(&map).iter().map(|(k, r)| (*k, *r)).collect())
     });
     let copied = readings(time, || nanos(|| black_box(&mut target).copy_from_slice(black_box(&source))));
-    let root = packed(st.order, &entries);
+    let root = packed(ps.trees[0].order, &entries);
     println!(
         "| {} | {} | {pool} | {} | {}, {} | {}, {} | {:.1} | {:.1} | {:.1} | {:.1} |",
-        st.order,
-        st.nodes,
+        ps.trees[0].order,
+        ps.nodes,
         entries.len(),
-        x.root.nodes(),
+        tree.nodes(),
         root.nodes(),
-        x.depth(),
+        tree.depth(),
         root.depth(),
         pack.median() / 1000.0,
         tests.median() / 1000.0,

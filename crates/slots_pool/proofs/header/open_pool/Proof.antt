@@ -1,21 +1,18 @@
--- `open_pool` meets its contract: zeros with a header are a pool of unused slots (`blank-words`, `blank-held`), and so a leaf in slot 0 leaves the
+-- `open_pool` meets its contract: zeros with a header are a pool of unused slots (`blank-words`, `blank-held`), and so a leaf of each tree leaves the
 -- words of a new pool (`new-words`). Assumes nothing.
-use mathlib.Core.Path.{_≡_, sym, subst}
+use mathlib.Core.Path.{_≡_, sym}
 use mathlib.Core.List.{_++_}
 use Prim.Native.Nat.{_/_}
 use native.Mathlib.Omega.{arith}
 use lib.ListN.{length, replicate}
-use borrow.Author.Needs.{needs}
 use Rattle.words.specs.Words.{words}
 use Rattle.words.proofs.Laws.{length-words}
-use Rattle.model.specs.declared.Settings.{Settings}
-use Rattle.model.specs.Sound.{handed}
-use Rattle.model.proofs.Layers.{handed-root}
-use Rattle.slots.specs.Nodes.{leafKind, nodes, putKind, unused}
-use Rattle.slots.specs.Contracts.{ToTouch, NodesPut}
+use Rattle.model.specs.Sound.{rowsFor}
+use Rattle.slots.specs.Nodes.{unused}
 use Rattle.slots_pool.specs.Header.{headerOf}
 use Rattle.slots_pool.specs.Image.{image}
-use Rattle.slots_pool.proofs.Fresh.{blank-words, blank-held, new-words}
+use Rattle.slots_pool.proofs.Fresh.{blank-words, both-held, blank-held, new-words}
+use borrow.Author.Needs.{needs}
 use Rattle.slots_pool.proofs.header.open_pool.Statement.{statement}
 use Rattle.slots_pool.proofs.header.open_pool.Tie as tie
 
@@ -26,36 +23,37 @@ clear-requires c κs = omega (arith, length-words (c .before .before .args .pool
 blank : (c : tie.After-write-header)
     → let start = c .before .before .before .before .before .before .before in
     let given = start .args .given in
-    words (c .write-header .last .0) ≡ headerOf given ++ image (handed given .root) (handed given .rows) (replicate (given .nodes) unused)
+    words (c .write-header .last .0) ≡ headerOf given ++ image 0 (rowsFor given) (replicate (given .nodes) unused)
 blank c =
     let cleared = c .before .before .before .before in
     let start = cleared .before .before .before in
     let p = start .args .pool .now in
-    blank-words (start .args .given) (words p) (words (cleared .clear .last .0)) (words (c .write-header .last .0)) (length p / 8) (start .pre)
+    blank-words (start .args .given) (words p) (words (cleared .clear .last .0)) (words (c .write-header .last .0)) (length p / 8) (start .pre .1)
     (sym (length-words p)) (cleared .clear .ensures .0) (c .write-header .ensures)
 
-set-kind-requires : tie.Need-set-kind-requires
-set-kind-requires c κs =
-    let known = c .before in
-    let headed = known .before .before .before in
+plant-requires : tie.Need-plant-requires
+plant-requires c κs =
+    let headed = c .before .before .before in
     let start = headed .before .before .before .before .before .before .before in
     let given = start .args .given in
-    let W = words (headed .write-header .last .0) in
-    let limits = start .pre .limits in
-    subst (λ (st : Settings). ToTouch st W (st .root)) (sym (known .handed .ensures))
-    (record { held = blank-held given W limits (blank headed); slot = handed-root given limits })
+    (start .pre .0, blank-held given (words (headed .write-header .last .0)) (start .pre .0) (blank headed))
+
+plant-requires-2 : tie.Need-plant-requires-2
+plant-requires-2 c κs =
+    let first = c .before .before .before in
+    let start = first .before .before .before .before .before .before .before .before .before .before .before in
+    let given = start .args .given in
+    (start .pre .0, both-held given (words (first .plant .last .0)) 0 1 (start .pre .0) (first .plant .ensures .held))
 
 returns : tie.Need-returns
 returns c =
-    let opened = c .before .before in
-    let known = opened .before .before in
-    let headed = known .before .before .before in
+    let second = c .before .before in
+    let first = second .before .before .before .before in
+    let headed = first .before .before .before .before in
     let start = headed .before .before .before .before .before .before .before in
     let given = start .args .given in
-    let W = words (headed .write-header .last .0) in
-    let X = words (opened .set-kind .last .0) in
-    new-words given W (start .pre .limits) (blank headed) X
-    (subst (λ (st : Settings). NodesPut st W X (putKind (nodes st W) (st .root) leafKind)) (known .handed .ensures) (opened .set-kind .ensures))
+    new-words given (words (headed .write-header .last .0)) (start .pre .0) (blank headed) (words (first .plant .last .0)) (words (second .plant2 .last .0))
+    (first .plant .ensures) (second .plant2 .ensures)
 
 pub open-pool-spec : {M : Type 1} → statement M
-open-pool-spec = tie.close (tie.spec clear-requires (λ c κs. search needs) (λ c κs. search needs) set-kind-requires (λ c. search needs) returns)
+open-pool-spec = tie.close (tie.spec clear-requires (λ c κs. search needs) plant-requires plant-requires-2 (λ c. search needs) returns)
