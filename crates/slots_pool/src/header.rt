@@ -87,7 +87,7 @@ pub fn layout(pool: &[u8]) -> u64
     words::get(pool, 0)
 }
 
-// Writes the header into a pool that is all zero.
+// Writes the header, whatever stood there.
 fn write_header(pool: &mut [u8], given: PoolSettings)
     requires { ⌜ headLen ≤ length (words (now pool)) ⌝ }
     ensures { λ _. ⌜ words (now (pool .exit)) ≡ headerOf given ++ drop headLen (words (now (pool .entry))) ⌝ }
