@@ -39,11 +39,13 @@ use Rattle.index.proofs.Register.{accepted, refused-same, leftBy, After
 pub refused-as-2 : (l : List ℕ) → (SoundPool l → ⊥) → RefusedAs2 l
 refused-as-2 l u =
     record {
-      totals = λ i r p. by-unsound u p;
-      batches = λ i c r l′ p. by-unsound u p;
-      gets = λ i ks out r out′ p. by-unsound u p;
-      scans = λ i q out r out′ p. by-unsound u p;
-      frames = λ i n line r line′ p. by-unsound u p;
+      trees = λ i. record {
+        totals = λ r p. by-unsound u p;
+        batches = λ c r l′ p. by-unsound u p;
+        gets = λ ks out r out′ p. by-unsound u p;
+        scans = λ q out r out′ p. by-unsound u p;
+        frames = λ n line r line′ p. by-unsound u p;
+      };
       source = λ m r m′ p. by-unsound (λ s. u (s .0)) p;
       target = λ k r l′ p. by-unsound (λ s. u (s .1)) p;
     }

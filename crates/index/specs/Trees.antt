@@ -61,26 +61,23 @@ FreedServesEither =
     (i j : ℕ) (c : Call) (l l′ : List ℕ) (k : Counts) → Lent c → Batches i c l (Batch.Done k) l′
     → indexOf l′ j .unused ≡ batchAt (givenIn l) i c (forestOf l) .index .unused
 
--- ANOTHER NUMBER THAN 0 AND 1 is refused as 19, straight after 2, whatever else is wrong with the call
-pub record RefusedAs19 (i : ℕ) (l : List ℕ) : Type 0 where
-  pub totals : (r : TotalsAnswer) → Totalling l i r → totalled r ≡ refused 19
-  pub batches : (c : Call) (r : BatchAnswer) (l′ : List ℕ) → Batches i c l r l′ → (batched r leaving l′) ≡ (refused 19 leaving l)
-  pub gets : (ks out : List ℕ) (r : GetAnswer) (out′ : List ℕ) → Gets l i ks out r out′ → (got r leaving out′) ≡ (refused 19 leaving out)
-  pub scans : (q : Request) (out : List ℕ) (r : ScanAnswer) (out′ : List ℕ) → Scans l i q out r out′ → (scanned r leaving out′) ≡ (refused 19 leaving out)
-  pub frames : (n : ℕ) (line : List ℕ) (r : WriteAnswer) (line′ : List ℕ) → Frames l i n line r line′ → (lengthTold r leaving line′) ≡ (refused 19 leaving line)
+-- every call that names tree i of the pool l is refused as k, and leaves the lent bytes as they were
+pub record RefusedAs (k i : ℕ) (l : List ℕ) : Type 0 where
+  pub totals : (r : TotalsAnswer) → Totalling l i r → totalled r ≡ refused k
+  pub batches : (c : Call) (r : BatchAnswer) (l′ : List ℕ) → Batches i c l r l′ → (batched r leaving l′) ≡ (refused k leaving l)
+  pub gets : (ks out : List ℕ) (r : GetAnswer) (out′ : List ℕ) → Gets l i ks out r out′ → (got r leaving out′) ≡ (refused k leaving out)
+  pub scans : (q : Request) (out : List ℕ) (r : ScanAnswer) (out′ : List ℕ) → Scans l i q out r out′ → (scanned r leaving out′) ≡ (refused k leaving out)
+  pub frames : (n : ℕ) (line : List ℕ) (r : WriteAnswer) (line′ : List ℕ) → Frames l i n line r line′ → (lengthTold r leaving line′) ≡ (refused k leaving line)
 
+-- ANOTHER NUMBER THAN 0 AND 1 is refused as 19, straight after 2, whatever else is wrong with the call
 abbrev pub NumbersRefused : Type 0
-NumbersRefused = (i : ℕ) (l : List ℕ) → SoundPool l → 2 ≤ i → RefusedAs19 i l
+NumbersRefused = (i : ℕ) (l : List ℕ) → SoundPool l → 2 ≤ i → RefusedAs 19 i l
 
 -- OLD POOLS of one tree, which have layout 1, are refused as 2, always
 
--- every call that is given the pool l is refused as 2, and leaves the lent bytes as they were
+-- every call that is given the pool l, whatever tree it names, is refused as 2, and leaves the lent bytes as they were
 pub record RefusedAs2 (l : List ℕ) : Type 0 where
-  pub totals : (i : ℕ) (r : TotalsAnswer) → Totalling l i r → totalled r ≡ refused 2
-  pub batches : (i : ℕ) (c : Call) (r : BatchAnswer) (l′ : List ℕ) → Batches i c l r l′ → (batched r leaving l′) ≡ (refused 2 leaving l)
-  pub gets : (i : ℕ) (ks out : List ℕ) (r : GetAnswer) (out′ : List ℕ) → Gets l i ks out r out′ → (got r leaving out′) ≡ (refused 2 leaving out)
-  pub scans : (i : ℕ) (q : Request) (out : List ℕ) (r : ScanAnswer) (out′ : List ℕ) → Scans l i q out r out′ → (scanned r leaving out′) ≡ (refused 2 leaving out)
-  pub frames : (i n : ℕ) (line : List ℕ) (r : WriteAnswer) (line′ : List ℕ) → Frames l i n line r line′ → (lengthTold r leaving line′) ≡ (refused 2 leaving line)
+  pub trees : (i : ℕ) → RefusedAs 2 i l
   pub source : (m : List ℕ) (r : PackAnswer) (m′ : List ℕ) → Packs l m r m′ → (packing r leaving m′) ≡ (refused 2 leaving m)
   pub target : (k : List ℕ) (r : PackAnswer) (l′ : List ℕ) → Packs k l r l′ → (packing r leaving l′) ≡ (refused 2 leaving l)
 

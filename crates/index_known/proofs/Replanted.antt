@@ -17,7 +17,8 @@ use Rattle.model.proofs.Lists.{by-test, times-append}
 use Rattle.model.proofs.Forest.{freed-serves-either}
 use Rattle.tree.specs.Bridge.{Holds, HoldsIndex, HoldsForest, Frame}
 use Rattle.tree.proofs.Cells.{agree-tree, used-tree}
-use Rattle.tree.proofs.Pools.{tree-sees, sees-unused, blank-seen, used-seen}
+use Rattle.tree.proofs.Unused.{used-seen}
+use Rattle.tree.proofs.Pools.{tree-sees, sees-unused, blank-seen}
 
 -- WHOEVER SEES THEM, slots in use stay as they were
 

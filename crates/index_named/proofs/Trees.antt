@@ -8,21 +8,19 @@ use mathlib.Core.List.{List}
 use lib.Dec.{ltb}
 use borrow.Author.Tests.{lt-ltb, le-ltb}
 use Rattle.words.specs.Words.{words}
-use Rattle.model.specs.declared.PoolSettings.{PoolSettings}
 use Rattle.model.specs.declared.Settings.{Settings}
 use Rattle.model.specs.Answer.{Answer, refused}
 use Rattle.model.specs.Sound.{rootFor, handed, PoolLimits}
 use Rattle.model.specs.Forest.{named}
 use Rattle.model.proofs.Lists.{by-test}
-use Rattle.tree.specs.Pool.{givenIn, settingsIn, nodesIn, indexOf, SoundPool}
-use Rattle.tree.specs.Contracts.{InPool}
+use Rattle.tree.specs.Pool.{givenIn, nodesIn, SoundPool}
 use Rattle.tree.proofs.Pools.{tree-sees, number-below}
 use Rattle.survey.specs.declared.Findings.{Findings}
-use Rattle.survey.specs.Contracts.{Surveyed}
-use Rattle.survey.proofs.Founds.{unsound, told, sound}
+use Rattle.survey.specs.Contracts.{Surveyed, heightFor}
+use Rattle.survey.proofs.Founds.{unsound, told, sound, limits, tree-in}
 use Rattle.index_promise.specs.Promise.{Where, holds, fails, _leaving_, leaves}
 use Rattle.index_named.specs.declared.Named.{Named}
-use Rattle.index_named.specs.Contracts.{TreeFound, Refused, Finds, heightFor, notFound}
+use Rattle.index_named.specs.Contracts.{TreeFound, Refused, Finds, notFound}
 use Rattle.index_named.proofs.Spares.{spared-seen}
 
 -- THE SEARCH
@@ -37,14 +35,10 @@ module _ {l : List ℕ} {f : Findings} (s : Surveyed l f) (i : ℕ) where
 
   module _ (e : not (f .sound) ≡ false) where
     pub in-limits : PoolLimits (f .given)
-    in-limits = rw (s .given (told s e)) (sound s e .settings)
+    in-limits = limits s (told s e)
 
     pub no-tree : (r : Named) → r ≡ notFound 19 → 1 < i → Finds l i r
     no-tree r q h = rw q (record { refusal = holds (sound s e) (rw (le-ltb i 2 h) refl); tree = λ z. absurd (omega arith) })
-
-    height-is : (i : ℕ) → heightFor i f ≡ indexOf l i .height
-    height-is zero = s .first (told s e)
-    height-is (suc i) = s .second (told s e)
 
     module _ (h : i ≤ 1) (st : Settings) (height : ℕ) (handed-is : st ≡ handed (f .given) i) (tall : height ≡ heightFor i f) where
       abbrev tree : Named
@@ -53,14 +47,6 @@ module _ {l : List ℕ} {f : Findings} (s : Surveyed l f) (i : ℕ) where
       number : st .root ≡ i
       number = ap (λ (u : Settings). u .root) handed-is ∙ root-is i h
 
-      in-pool : InPool l st height
-      in-pool =
-          record {
-            sound = sound s e;
-            own = handed-is ∙ ap (λ (g : PoolSettings). handed g i) (s .given (told s e)) ∙ ap (settingsIn l) (sym number);
-            tall = tall ∙ height-is i ∙ ap (λ (j : ℕ). indexOf l j .height) (sym number);
-          }
-
       pub found : Finds l i tree
       found =
           record {
@@ -68,7 +54,7 @@ module _ {l : List ℕ} {f : Findings} (s : Surveyed l f) (i : ℕ) where
             tree = λ _.
                 record {
                   number = number;
-                  pool = in-pool;
+                  pool = tree-in s (told s e) i st height handed-is tall;
                   spared = rw (tree-sees (givenIn l) (words l) i) (spared-seen (rootFor i) (nodesIn l 0) (f .spare) (s .spared (told s e)));
                 };
           }

@@ -1,5 +1,5 @@
 -- What is found of the tree that a call names. Assumes nothing.
-use Prim.Native.Nat.{ℕ, zero, suc}
+use Prim.Native.Nat.{ℕ}
 use mathlib.Core.Path.{_≡_}
 use mathlib.Core.Bool.{cond}
 use mathlib.Core.List.{List}
@@ -7,7 +7,6 @@ use lib.Dec.{ltb}
 use Rattle.tree.specs.Pool.{nodesIn, SoundPool}
 use Rattle.tree.specs.Contracts.{InPool}
 use Rattle.tree_spare.specs.Spared.{Spared}
-use Rattle.survey.specs.declared.Findings.{Findings}
 use Rattle.index_promise.specs.Promise.{Where}
 use Rattle.index_named.specs.declared.Named.{Named}
 
@@ -26,11 +25,6 @@ pub record Finds (l : List ℕ) (i : ℕ) (r : Named) : Type 0 where
   pub tree : r .refusal ≡ 0 → TreeFound l i r
 
 -- WITHIN THE SEARCH
-
--- the height of tree i
-abbrev pub heightFor : ℕ → Findings → ℕ
-heightFor zero f = f .first
-heightFor (suc i) f = f .second
 
 -- the answer where nothing is found
 abbrev pub notFound : ℕ → Named

@@ -1,6 +1,7 @@
 // The tree that a call names: the one place that tests a pool and the tree's number. Every call on one tree begins here.
 ghost use mathlib.Core.Path.{_≡_};
-ghost use Rattle.index_named.specs.Contracts.{Finds, heightFor, notFound};
+ghost use Rattle.survey.specs.Contracts.{heightFor};
+ghost use Rattle.index_named.specs.Contracts.{Finds, notFound};
 use model::Settings;
 use model_code::handed;
 use survey::Findings;

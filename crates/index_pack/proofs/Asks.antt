@@ -15,30 +15,29 @@ use Rattle.model.specs.declared.PoolSettings.{PoolSettings}
 use Rattle.model.specs.declared.Settings.{Settings}
 use Rattle.model.specs.declared.Totals.{Totals}
 use Rattle.model.specs.Tree.{len, entriesOf, totalsOf}
-use Rattle.model.specs.Pack.{isNew}
+use Rattle.model.specs.Pack.{differ, isNew}
 use Rattle.model.specs.PackForest.{forestsDiffer}
 use Rattle.model.specs.Sound.{rootFor}
 use Rattle.tree.specs.Bridge.{entryOf, childOf, treeAt}
 use Rattle.tree.specs.Pool.{nodesIn, indexOf}
 use Rattle.tree.proofs.ReadOff.{total-count}
 use Rattle.tree.specs.Contracts.{InPool}
-use Rattle.index_pack.specs.Contracts.{limitsDiffer}
 
 -- WHETHER TWO POOLS DIFFER
 
-pub orders-differ : (a b : Limits) → a .order ≢ b .order → true ≡ limitsDiffer a b
+pub orders-differ : (a b : Limits) → a .order ≢ b .order → true ≡ differ a b
 orders-differ a b ne = ap (λ (t : Bool). not (t && eqb (a .minimum) (b .minimum))) (sym (ne-eqb (a .order) (b .order) ne))
 
-pub minimums-tell : (a b : Limits) → a .order ≡ b .order → not (eqb (a .minimum) (b .minimum)) ≡ limitsDiffer a b
+pub minimums-tell : (a b : Limits) → a .order ≡ b .order → not (eqb (a .minimum) (b .minimum)) ≡ differ a b
 minimums-tell a b e = ap (λ (t : Bool). not (t && eqb (a .minimum) (b .minimum))) (sym (eq-eqb (a .order) (b .order) e))
 
 -- the first trees do, or else the second ones tell
-module _ (a b : PoolSettings) (r : Bool) (is : r ≡ limitsDiffer (a .first) (b .first)) where
+module _ (a b : PoolSettings) (r : Bool) (is : r ≡ differ (a .first) (b .first)) where
   pub first-differ : r ≡ true → true ≡ forestsDiffer a b
-  first-differ e = ap (_|| limitsDiffer (a .second) (b .second)) (sym e ∙ is)
+  first-differ e = ap (_|| differ (a .second) (b .second)) (sym e ∙ is)
 
-  pub second-tell : r ≡ false → (q : Bool) → q ≡ limitsDiffer (a .second) (b .second) → q ≡ forestsDiffer a b
-  second-tell e q same = same ∙ ap (_|| limitsDiffer (a .second) (b .second)) (sym e ∙ is)
+  pub second-tell : r ≡ false → (q : Bool) → q ≡ differ (a .second) (b .second) → q ≡ forestsDiffer a b
+  second-tell e q same = same ∙ ap (_|| differ (a .second) (b .second)) (sym e ∙ is)
 
 -- WHETHER A TREE IS BARE
 

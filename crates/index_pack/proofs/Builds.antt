@@ -28,6 +28,7 @@ use Rattle.model.proofs.PackForest.{packed-forest-sound}
 use Rattle.tree.specs.Bridge.{Holds}
 use Rattle.tree.specs.Pool.{SoundPool, givenIn, settingsIn, indexOf, forestOf, imageOf}
 use Rattle.tree.proofs.Cells.{agree-tree}
+use Rattle.tree.proofs.NodesOf.{forest-held}
 use Rattle.tree.proofs.Pools.{tree-sees, sound-header, held-bytes}
 use Rattle.pack_plan.proofs.Nodes.{packed-nodes}
 use Rattle.pack.specs.Build.{treeFor}
@@ -35,7 +36,7 @@ use Rattle.pack.specs.Contracts.{ToBuild, Built}
 use Rattle.index_pack.specs.declared.Plan.{Plan}
 use Rattle.index_pack.specs.Plan.{planFor, pieceOf}
 use Rattle.index_pack.proofs.Plans.{source-over, grown-is, grown-nodes, to-build}
-use Rattle.index_pack.proofs.Targets.{same-across, new-empty, new-free, forest-held}
+use Rattle.index_pack.proofs.Targets.{same-across, new-empty, new-free}
 
 module _ (l m : List ℕ) (s : SoundPool l) (t : SoundPool m) (orders : (i : ℕ) → settingsIn l i .order ≡ settingsIn m i .order) where
   abbrev u : PoolSettings

@@ -1,10 +1,9 @@
 -- A pool that its survey found sound: its trees with the settings and heights that were found, and whether it is new. Assumes nothing.
 use Prim.Native.Nat.{ℕ}
-use mathlib.Core.Path.{_≡_, refl, sym, ap, _∙_, subst}
+use mathlib.Core.Path.{_≡_, refl, sym, ap, _∙_}
 use mathlib.Core.Bool.{Bool, true, false, not, _&&_}
 use mathlib.Core.List.{List}
 use borrow.Author.Tests.{not-true, not-false}
-use Rattle.model.specs.declared.PoolSettings.{PoolSettings}
 use Rattle.model.specs.declared.Settings.{Settings}
 use Rattle.model.specs.Pack.{isNew}
 use Rattle.model.specs.PackForest.{isNewForest}
@@ -12,6 +11,8 @@ use Rattle.model.specs.Sound.{rootFor, handed, PoolLimits}
 use Rattle.tree.specs.Pool.{SoundPool, givenIn, settingsIn, indexOf, forestOf}
 use Rattle.tree.specs.Contracts.{InPool}
 use Rattle.survey.specs.declared.Findings.{Findings}
+use Rattle.survey.specs.Contracts.{heightFor}
+use Rattle.survey.proofs.Founds.{limits, own-settings, tree-in}
 use Rattle.index_pack.specs.Contracts.{Found}
 
 module _ {l : List ℕ} {f : Findings} (k : Found l f) where
@@ -22,22 +23,13 @@ module _ {l : List ℕ} {f : Findings} (k : Found l f) where
   found-given = k .surveyed .given (k .sound)
 
   pub found-limits : PoolLimits (f .given)
-  found-limits = subst PoolLimits (sym found-given) (found-sound .settings)
-
-  -- THE SETTINGS that are handed of a tree are its own
+  found-limits = limits (k .surveyed) (k .sound)
 
   pub found-settings : (i : ℕ) (st : Settings) → st ≡ handed (f .given) i → st ≡ settingsIn l i
-  found-settings i st e = e ∙ ap (λ (g : PoolSettings). handed g i) found-given
+  found-settings = own-settings (k .surveyed) (k .sound)
 
-  pub first-in : (st : Settings) → st ≡ handed (f .given) 0 → InPool l st (f .first)
-  first-in st e =
-      subst (λ (u : Settings). InPool l u (f .first)) (sym (found-settings 0 st e))
-      (record { sound = found-sound; own = refl; tall = k .surveyed .first (k .sound) })
-
-  pub second-in : (st : Settings) → st ≡ handed (f .given) 1 → InPool l st (f .second)
-  second-in st e =
-      subst (λ (u : Settings). InPool l u (f .second)) (sym (found-settings 1 st e))
-      (record { sound = found-sound; own = refl; tall = k .surveyed .second (k .sound) })
+  pub found-tree : (i : ℕ) (st : Settings) → st ≡ handed (f .given) i → InPool l st (heightFor i f)
+  found-tree i st e = tree-in (k .surveyed) (k .sound) i st (heightFor i f) e refl
 
   -- WHETHER IT IS NEW: the first tree tells that it is not, or else the second tells
 

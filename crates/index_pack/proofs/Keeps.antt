@@ -1,5 +1,5 @@
 -- What the tests and the building have told keeps the promise of packing. Assumes nothing.
-use Prim.Native.Nat.{ℕ, zero, suc, _+_, _≤_, _<_}
+use Prim.Native.Nat.{ℕ, suc, _+_, _≤_, _<_}
 use mathlib.Core.Path.{_≡_, refl, sym, ap, _∙_}
 use mathlib.Core.Bool.{Bool, true, false, cond, not}
 use mathlib.Core.List.{List}
@@ -7,11 +7,9 @@ use native.Mathlib.Omega.{arith}
 use lib.Dec.{ltb}
 use borrow.Author.Tests.{lt-ltb, le-ltb}
 use Rattle.model.specs.Answer.{Answer, done, unless}
-use Rattle.model.specs.Pack.{differ}
 use Rattle.model.specs.Forest.{Forest}
 use Rattle.model.specs.PackForest.{nodesUsed, isNewForest, forestsDiffer, packedFrom, packForestRefusal}
-use Rattle.model.proofs.Lists.{or-left, or-right}
-use Rattle.model.proofs.Packing.{not-differ}
+use Rattle.model.proofs.PackForest.{not-differ-forest}
 use Rattle.tree.specs.Pool.{SoundPool, givenIn, settingsIn, forestOf, imageOf}
 use Rattle.index_promise.specs.declared.PackAnswer.the-variants as Pack
 use Rattle.index_promise.specs.Promise.{holds, fails, Left, _leaving_, leaves, Packs}
@@ -44,12 +42,7 @@ module _ (l m : List ℕ) where
       refused-18 e = refuses 17 (rw (same, e) refl)
 
       pub orders : (i : ℕ) → settingsIn l i .order ≡ settingsIn m i .order
-      orders zero =
-          not-differ (settingsIn l 0) (settingsIn m 0)
-          (or-left (differ (settingsIn l 0) (settingsIn m 0)) (differ (settingsIn l 1) (settingsIn m 1)) same) .0
-      orders (suc i) =
-          not-differ (settingsIn l 1) (settingsIn m 1)
-          (or-right (differ (settingsIn l 0) (settingsIn m 0)) (differ (settingsIn l 1) (settingsIn m 1)) same) .0
+      orders i = not-differ-forest (givenIn l) (givenIn m) same i .0
 
       abbrev planned : ℕ
       planned = plan l m s t orders 0 .nodes + plan l m s t orders 1 .nodes

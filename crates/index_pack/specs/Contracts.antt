@@ -1,18 +1,12 @@
 -- What is known of the two pools when their trees are copied. Assumes nothing.
 use Prim.Native.Nat.{ℕ}
 use mathlib.Core.Path.{_≡_}
-use mathlib.Core.Bool.{Bool, true, false, not, _&&_}
+use mathlib.Core.Bool.{true, false}
 use mathlib.Core.List.{List}
-use lib.Dec.{eqb}
-use Rattle.model.specs.declared.Limits.{Limits}
 use Rattle.model.specs.PackForest.{isNewForest, forestsDiffer}
 use Rattle.tree.specs.Pool.{givenIn, forestOf}
 use Rattle.survey.specs.declared.Findings.{Findings}
 use Rattle.survey.specs.Contracts.{Surveyed}
-
--- the orders or the minimums of two trees differ
-abbrev pub limitsDiffer : Limits → Limits → Bool
-limitsDiffer a b = not (eqb (a .order) (b .order) && eqb (a .minimum) (b .minimum))
 
 -- a survey found the pool l sound
 pub record Found (l : List ℕ) (f : Findings) : Type 0 where

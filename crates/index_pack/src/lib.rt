@@ -3,7 +3,7 @@ ghost use mathlib.Core.Path.{_≡_};
 ghost use lib.ListN.{length};
 ghost use Rattle.words.specs.Words.{words};
 ghost use Rattle.model.specs.Tree.{entriesOf};
-ghost use Rattle.model.specs.Pack.{isNew};
+ghost use Rattle.model.specs.Pack.{differ, isNew};
 ghost use Rattle.model.specs.PackForest.{isNewForest, forestsDiffer};
 ghost use Rattle.tree.specs.Pool.{indexOf, forestOf};
 ghost use Rattle.tree.specs.Contracts.{InPool};
@@ -11,7 +11,7 @@ ghost use Rattle.pack.specs.Build.{entriesIn, treeFor};
 ghost use Rattle.pack.specs.Contracts.{ToBuild, Built};
 ghost use Rattle.index_promise.specs.Promise.{Packs};
 ghost use Rattle.index_pack.specs.Plan.{planFor, pieceOf};
-ghost use Rattle.index_pack.specs.Contracts.{Found, ToCopy, limitsDiffer};
+ghost use Rattle.index_pack.specs.Contracts.{Found, ToCopy};
 use index_promise::PackAnswer;
 use model::Limits;
 use model::PoolSettings;
@@ -56,7 +56,7 @@ fn settings_differ(a: PoolSettings, b: PoolSettings) -> bool
 }
 
 fn limits_differ(a: Limits, b: Limits) -> bool
-    ensures { λ r. ⌜ r ≡ limitsDiffer a b ⌝ }
+    ensures { λ r. ⌜ r ≡ differ a b ⌝ }
 {
     if a.order != b.order {
         return true;

@@ -1,7 +1,7 @@
--- The statements of specs/LiveSizes, proved: a child that only the sum of before lets a scan enter holds nothing due. Where the two sums are the same, and
--- what clearing takes off the sum of now. Assumes nothing.
+-- The statements of specs/LiveSizes, proved: a child that only the sum of before lets a scan enter holds nothing due. And what clearing takes off the
+-- sum of now. Assumes nothing.
 use mathlib.Core.Path.{_≡_, refl, ap, sym, _∙_}
-use mathlib.Core.Bool.{Bool, true, false, cond, _&&_, true≢false}
+use mathlib.Core.Bool.{Bool, true, false, _&&_, true≢false}
 use mathlib.Core.List.{List, [], _∷_, _++_}
 use mathlib.Core.Option.{Option, some}
 use Prim.Native.Nat.{ℕ, suc, _+_, _≤_}
@@ -16,12 +16,11 @@ use Rattle.model.specs.declared.Totals.{Totals}
 use Rattle.model.specs.declared.Direction.{Direction}
 use Rattle.model.specs.declared.Direction.the-variants.{Up, Down}
 use Rattle.model.specs.declared.Request.{Request}
-use Rattle.model.specs.Lists.{All, none, one}
-use Rattle.model.specs.Tree.{Item, Tree, entries, greatestKey, isMark, isLive, adds, total}
+use Rattle.model.specs.Tree.{Item, Tree, entries, greatestKey, isMark, adds, total}
 use Rattle.model.specs.Look.{least, starts, ends, figure, listing, untilEnd, reached, entered, entering, openingsBy, openings}
 use Rattle.model.specs.Plain.{act, entryFor, below, from, above, held, under, plainList}
 use Rattle.model.specs.Refuse.{tasksOf}
-use Rattle.model.specs.LiveSizes.{allSizes, Alike, clear, enteredByAll, enteringByAll, ListsStay, OpensNoMore}
+use Rattle.model.specs.LiveSizes.{allSizes, clear, enteredByAll, enteringByAll, ListsStay, OpensNoMore}
 use Rattle.model.proofs.Lists.{by-test, both-left, both-right, all-every}
 use Rattle.model.proofs.Plain.{joined-again}
 use Rattle.model.proofs.Trees.{listTotals, totals-append, total-list, adds-most}
@@ -36,27 +35,6 @@ live-most (e ∷ es) = omega (arith, adds-most e, live-most es)
 
 total-most : (h : ℕ) (i : Item h) → total h i .size ≤ allSizes (entries h i)
 total-most h i = omega (arith, live-most (entries h i), ap (λ (t : Totals). t .size) (total-list h i))
-
--- they are the same where no dead entry has a size ..
-alike-counts : (e : Entry) → Alike e → adds e .size ≡ e .size
-alike-counts e a = by (isLive e) a
-  where
-    by : (b : Bool) → (b ≡ false → e .size ≡ 0) → cond b (e .size) 0 ≡ e .size
-    by true f = refl
-    by false f = sym (f refl)
-
-pub alike-sums : {es : List Entry} → All Alike es → allSizes es ≡ listTotals es .size
-alike-sums none = refl
-alike-sums (one {x = e} a more) = omega (arith, alike-counts e a, alike-sums more)
-
--- .. and nowhere else
-counts-alike : (e : Entry) → e .size ≤ adds e .size → Alike e
-counts-alike e le d = omega (arith, le, ap (λ (b : Bool). cond b (e .size) 0) d)
-
-pub sums-alike : (es : List Entry) → allSizes es ≡ listTotals es .size → All Alike es
-sums-alike [] e = none
-sums-alike (x ∷ es) e =
-    one (counts-alike x (omega (arith, e, live-most es))) (sums-alike es (omega (arith, e, adds-most x, live-most es)))
 
 -- CLEARING
 

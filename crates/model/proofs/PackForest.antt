@@ -132,10 +132,10 @@ pub record UnrefusedForest (g u : PoolSettings) (f y : Forest) : Type 0 where
   pub new : isNewForest y ≡ true
   pub room : nodesUsed (packedFrom u f) ≤ u .nodes
 
-not-differ-forest : (g u : PoolSettings) → forestsDiffer g u ≡ false → (i : ℕ)
+pub not-differ-forest : (g u : PoolSettings) → forestsDiffer g u ≡ false → (i : ℕ)
     → (handed g i .order ≡ handed u i .order) × (handed g i .minimum ≡ handed u i .minimum)
-not-differ-forest g u e zero = not-differ (handed g 0) (handed u 0) (or-left (differ (handed g 0) (handed u 0)) _ e)
-not-differ-forest g u e (suc i) = not-differ (handed g 1) (handed u 1) (or-right (differ (handed g 0) (handed u 0)) _ e)
+not-differ-forest g u e zero = not-differ (g .first) (u .first) (or-left (differ (g .first) (u .first)) _ e)
+not-differ-forest g u e (suc i) = not-differ (g .second) (u .second) (or-right (differ (g .first) (u .first)) _ e)
 
 pub unrefused-forest : (g u : PoolSettings) (f y : Forest) → packForestRefusal g u f y ≡ 0 → UnrefusedForest g u f y
 unrefused-forest g u f y = by (forestsDiffer g u) (isNewForest y) (ltb (u .nodes) (nodesUsed (packedFrom u f))) refl refl refl

@@ -1,4 +1,4 @@
--- Settings that do not differ, and that no sound tree is smaller than a packed one. Assumes nothing.
+-- Limits that do not differ, and that no sound tree is smaller than a packed one. Assumes nothing.
 use mathlib.Core.Path.{_≡_, refl}
 use mathlib.Core.Bool.{true, false, _&&_}
 use mathlib.Core.List.{List}
@@ -7,6 +7,7 @@ use native.Mathlib.Omega.{arith}
 use lib.Dec.{eqb}
 use borrow.Author.Tests.{eqb-true, not-false}
 use Rattle.model.specs.declared.Entry.{Entry}
+use Rattle.model.specs.declared.Limits.{Limits}
 use Rattle.model.specs.declared.Settings.{Settings}
 use Rattle.model.specs.Tree.{Index}
 use Rattle.model.specs.Pack.{differ}
@@ -17,10 +18,10 @@ use Rattle.model.proofs.Lists.{both-left, both-right}
 use Rattle.model.proofs.Packs.{over-wide, is-packed-tree, packed-tree-whole, packed-tree-rooted}
 use Rattle.model.proofs.Least.{least-law}
 
-pub not-differ : (st su : Settings) → differ st su ≡ false → (st .order ≡ su .order) × (st .minimum ≡ su .minimum)
-not-differ st su e =
-    let b : (eqb (st .order) (su .order) && eqb (st .minimum) (su .minimum)) ≡ true = not-false _ e in
-    (eqb-true _ _ (both-left (eqb (st .order) (su .order)) _ b), eqb-true _ _ (both-right (eqb (st .order) (su .order)) _ b))
+pub not-differ : (a b : Limits) → differ a b ≡ false → (a .order ≡ b .order) × (a .minimum ≡ b .minimum)
+not-differ a b e =
+    let t : (eqb (a .order) (b .order) && eqb (a .minimum) (b .minimum)) ≡ true = not-false _ e in
+    (eqb-true _ _ (both-left (eqb (a .order) (b .order)) _ t), eqb-true _ _ (both-right (eqb (a .order) (b .order)) _ t))
 
 -- no sound tree over these entries is smaller than a packed one, wherever either stands
 pub least-tree : (st : Settings) (i : ℕ) (es : List Entry) (us : List ℕ) {x : Index} → Over (st .order) es x

@@ -1,6 +1,6 @@
 -- A size sum counts live entries alone (document 02, A3): the sum of before, the scan that went by it, and what 02 says of scans. Assumes nothing.
 use mathlib.Core.Path.{_≡_}
-use mathlib.Core.Bool.{Bool, false, _&&_}
+use mathlib.Core.Bool.{Bool, _&&_}
 use mathlib.Core.List.{List, [], _∷_}
 use Prim.Native.Nat.{ℕ, _+_, _≤_}
 use lib.Dec.{leb}
@@ -9,7 +9,7 @@ use Rattle.model.specs.declared.Settings.{Settings}
 use Rattle.model.specs.declared.Operation.the-variants as Op
 use Rattle.model.specs.declared.Request.{Request}
 use Rattle.model.specs.Lists.{concat, keep}
-use Rattle.model.specs.Tree.{Item, Index, entries, greatestKey, isLive}
+use Rattle.model.specs.Tree.{Item, Index, entries, greatestKey}
 use Rattle.model.specs.Look.{listing, least, starts, Choice, reached, openingsBy, countTo, Scanned, scan}
 use Rattle.model.specs.Refuse.{Call, call}
 use Rattle.model.specs.Sound.{Sound}
@@ -18,10 +18,6 @@ use Rattle.model.specs.Sound.{Sound}
 abbrev pub allSizes : List Entry → ℕ
 allSizes [] = 0
 allSizes (e ∷ es) = e .size + allSizes es
-
--- an entry that both sums count alike: a live one, or a dead one of size 0
-abbrev pub Alike : Entry → Type 0
-Alike e = isLive e ≡ false → e .size ≡ 0
 
 -- keys set to a mark, of some size: their entries are dead
 abbrev pub clear : List ℕ → ℕ → Call

@@ -5,7 +5,7 @@ use Prim.Native.Nat.{ℕ, zero, suc, _+_, _*_}
 use lib.ListN.{take, drop}
 use lib.Dec.{leb, eqb}
 use Rattle.model.specs.declared.Entry.{Entry}
-use Rattle.model.specs.declared.Settings.{Settings}
+use Rattle.model.specs.declared.Limits.{Limits}
 use Rattle.model.specs.Tree.{Tree, Index, len}
 use Rattle.model.specs.Frame.{nodesIn}
 
@@ -48,9 +48,9 @@ packed o (suc h) s i es = record { slot = s; items = inPreorder h (packed o h) i
 
 -- THE CALL
 
--- the orders or the minimums of two pools differ
-abbrev pub differ : Settings → Settings → Bool
-differ st su = not (eqb (st .order) (su .order) && eqb (st .minimum) (su .minimum))
+-- the orders or the minimums of two trees differ
+abbrev pub differ : Limits → Limits → Bool
+differ a b = not (eqb (a .order) (b .order) && eqb (a .minimum) (b .minimum))
 
 -- a new index is one empty leaf
 abbrev pub isNew : Index → Bool

@@ -51,7 +51,7 @@ isNewForest f = isNew (treeOf 0 f) && isNew (treeOf 1 f)
 
 -- the order or the minimum of either tree differs
 abbrev pub forestsDiffer : PoolSettings → PoolSettings → Bool
-forestsDiffer g u = differ (handed g 0) (handed u 0) || differ (handed g 1) (handed u 1)
+forestsDiffer g u = differ (g .first) (u .first) || differ (g .second) (u .second)
 
 -- the packed forest of a source f, in a pool of the settings u
 abbrev pub packedFrom : PoolSettings → Forest → Forest

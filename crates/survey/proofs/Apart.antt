@@ -19,7 +19,6 @@ use Rattle.model.specs.Contracts.{flat}
 use Rattle.model.proofs.Lists.{all-append, all-map, hit-same, hit-other, times-append}
 use Rattle.model.proofs.Numbers.{times-all}
 use Rattle.model.proofs.Trees.{slotsIn, slots-leaf, Ends, separator-ends}
-use Rattle.model.proofs.Numbers.{times-all}
 use Rattle.tree.specs.Bridge.{childOf, treeAt}
 use Rattle.tree.specs.Pool.{firstChild, heightAt, Kinds}
 use Rattle.survey_node.proofs.Rows.{itemsAt}

@@ -15,7 +15,6 @@ use Rattle.model.specs.Sound.{Once}
 use Rattle.model.proofs.Lists.{hit-same, hit-other}
 use Rattle.model.proofs.Numbers.{length-up, map-up}
 use Rattle.model.proofs.Trees.{once-count}
-use Rattle.model.proofs.Numbers.{length-up, map-up}
 use Rattle.tree.specs.Bridge.{unusedOf}
 use Rattle.tree.proofs.Unused.{used-none, unused-one, unused-past}
 

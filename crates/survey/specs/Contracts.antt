@@ -1,5 +1,5 @@
 -- What the survey of a pool promises, and what the pass over its slots tells. Assumes nothing.
-use Prim.Native.Nat.{ℕ}
+use Prim.Native.Nat.{ℕ, zero, suc}
 use mathlib.Core.Path.{_≡_}
 use mathlib.Core.Bool.{true, false}
 use mathlib.Core.List.{List}
@@ -38,6 +38,11 @@ pub record Surveyed (l : List ℕ) (r : Findings) : Type 0 where
   pub second : r .sound ≡ true → r .second ≡ indexOf l 1 .height
   pub spared : r .sound ≡ true → Spared (nodesIn l 0) (r .spare)
   pub nothing : r .sound ≡ false → r ≡ unsound
+
+-- the height of tree i, as it was found
+abbrev pub heightFor : ℕ → Findings → ℕ
+heightFor zero r = r .first
+heightFor (suc i) r = r .second
 
 -- what the header and the length say of a sound pool
 pub record Headed (l : List ℕ) : Type 0 where

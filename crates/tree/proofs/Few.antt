@@ -16,7 +16,6 @@ use Rattle.model.specs.Sound.{Sound}
 use Rattle.model.proofs.Lists.{by-test, times-append}
 use Rattle.model.proofs.Numbers.{all-times}
 use Rattle.model.proofs.Trees.{root-few, entries-few, used-most}
-use Rattle.tree.specs.Bridge.{Apart}
 
 pub used-few : (st : Settings) {elsewhere : List ℕ} (x : Index) → Sound st elsewhere x → length (slotsOf x) ≤ 16384
 used-few st x s = omega (arith, used-most st x s, s .settings .bounded)
@@ -47,6 +46,3 @@ module _ (st : Settings) {elsewhere : List ℕ} (x : Index) (s : Sound st elsewh
 
   pub slots-low : All (λ t. t < st .nodes) (slotsOf x)
   slots-low = all-times (λ t. t < st .nodes) (slotsOf x) slot-low
-
-  pub slots-apart : Apart (x .height) (x .root)
-  slots-apart t = omega (arith, slot-once t)

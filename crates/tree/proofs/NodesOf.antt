@@ -1,5 +1,6 @@
 -- The nodes of a forest and no others hold it: `nodesOf` holds a sound forest, and nodes that do are `nodesOf`. Assumes nothing.
 use mathlib.Core.Path.{_≡_, refl, sym, ap, _∙_, subst}
+use mathlib.Core.Logic.{_≢_, _⊎_, inl, inr}
 use mathlib.Core.Bool.{cond}
 use mathlib.Core.List.{List, [], _∷_, _++_, map}
 use Prim.Native.Nat.{ℕ, zero, suc, _+_, _≤_, _<_}
@@ -10,7 +11,6 @@ use lib.ListN.{length, length-map, List·getD-eq-default}
 use lib.Seq.{ext-getD}
 use borrow.Author.Tests.{lt-ltb, le-ltb, eq-eqb, ne-eqb, eqb-true, eqb-false}
 use Rattle.slots_raw.proofs.Over.{map-append}
-use Rattle.slots_raw.proofs.Views.{seen-unused}
 use Rattle.slots.specs.Nodes.{unusedKind, nodeSeen, nth, unused}
 use Rattle.slots.specs.Nodes as S
 use Rattle.slots.proofs.Others.{node-twice, nodes-own, nth-seen}
@@ -21,10 +21,10 @@ use Rattle.model.specs.Sound.{rootFor}
 use Rattle.model.specs.Forest.{Forest, planted, treeOf, SoundForest}
 use Rattle.model.proofs.Lists.{by-test, all-append, all-left, all-right, all-both, all-map, all-of, hit-same, hit-other, times-append}
 use Rattle.model.proofs.Numbers.{ascending-same, length-up, map-up}
-use Rattle.tree.specs.Bridge.{Cell, Stands, Holds, unusedOf, HoldsForest}
+use Rattle.tree.specs.Bridge.{Cell, Stands, Holds, Blank, unusedOf, HoldsForest}
 use Rattle.tree.specs.Pool.{nodeIn, treeCells, seenCell, forestCells, nodesOf}
-use Rattle.tree.proofs.Cells.{places, cell-places, by-place, Full, full, used-by}
-use Rattle.tree.proofs.Unused.{used-none, unused-one, unused-past, unused-up}
+use Rattle.tree.proofs.Cells.{places, cell-places, by-place, used-tree}
+use Rattle.tree.proofs.Unused.{used-none, unused-one, unused-past, unused-up, used-seen}
 
 -- THE NODE IN A SLOT, of some cells
 
@@ -88,12 +88,6 @@ forest-places f s =
     ∙ ap (λ (l : List ℕ). times s l + times s (places b)) (cell-places (suc (f .first .height)) (f .first .root))
     ∙ ap (λ (l : List ℕ). times s (slotsOf (treeOf 0 f)) + times s l) (cell-places (suc (f .second .height)) (f .second .root))
 
--- each is in use
-forest-full : (f : Forest) → All Full (forestCells f)
-forest-full f =
-    all-append (full (suc (f .first .height)) (f .first .root))
-    (all-of seenCell (all-map (λ c g e. g (seen-unused 1 (c .node .kind) e)) (full (suc (f .second .height)) (f .second .root))))
-
 -- a cell of the second tree stands where it sees the nodes, and its image where the first does
 stands-seen : (ns : List S.Node) (c : Cell) → Stands (map (nodeSeen 1) ns) c → Stands ns (seenCell c)
 stands-seen ns c e = sym (node-twice 1 (nth ns (c .slot))) ∙ ap (nodeSeen 1) (sym (nth-seen 1 ns (c .slot)) ∙ e)
@@ -123,6 +117,56 @@ node-found ns none s f = f refl
 node-found ns (one {x = c} {xs = cs} k ks) s f =
     by-test (λ (n : S.Node). nth ns s ≡ n) (eqb s (c .slot)) (λ e. ap (nth ns) (eqb-true s (c .slot) e) ∙ k)
     (λ e. node-found ns ks s (λ z. f (omega (arith, hit-other s (c .slot) (eqb-false s (c .slot) e)))))
+
+-- A FOREST IS HELD where its trees stand and its unused slots hold nothing: there are no other slots
+
+module _ (u : PoolSettings) (f : Forest) (s : SoundForest u f) (ns : List S.Node) (size : length ns ≡ u .nodes)
+    (trees : (i : ℕ) → Holds (map (nodeSeen (rootFor i)) ns) (planted i f .height) (planted i f .root))
+    (free : (x : ℕ) → 0 < times x (f .unused) → nth ns x ≡ unused) where
+  in-use : (i x : ℕ) → 0 < times x (slotsOf (treeOf i f)) → nth ns x .kind ≢ unusedKind
+  in-use i x on =
+      used-seen (rootFor i) ns x (used-tree (map (nodeSeen (rootFor i)) ns) (planted i f .height) (planted i f .root) (trees i) x on)
+
+  -- a slot is one of a tree's or an unused one
+  abbrev Either : ℕ → Type 0
+  Either x = ((nth ns x .kind ≢ unusedKind) × (times x (f .unused) ≡ 0)) ⊎ ((nth ns x ≡ unused) × (times x (f .unused) ≡ 1))
+
+  each : (x : ℕ) → x < u .nodes → Either x
+  each x lt = by (decLt 0 (times x (slotsOf (treeOf 0 f)))) (decLt 0 (times x (slotsOf (treeOf 1 f))))
+    where
+      once : times x (slotsOf (treeOf 0 f)) + times x (slotsOf (treeOf 1 f)) + times x (f .unused) ≡ 1
+      once = omega (arith, rw (lt-ltb x (u .nodes) lt) at (s .trees 1 .once x), times-append x (slotsOf (treeOf 0 f)) (slotsOf (treeOf 1 f)))
+
+      by : Dec (0 < times x (slotsOf (treeOf 0 f))) → Dec (0 < times x (slotsOf (treeOf 1 f))) → Either x
+      by (yes on) d = inl (in-use 0 x on, omega (arith, once))
+      by (no off) (yes on) = inl (in-use 1 x on, omega (arith, once))
+      by (no off) (no out) = let is : times x (f .unused) ≡ 1 = omega (arith, once) in inr (free x (omega (arith, is)), is)
+
+  same : (x : ℕ) → times x (unusedOf ns) ≡ times x (f .unused)
+  same x = by (decLt x (u .nodes))
+    where
+      at-slot : x < u .nodes → Either x → times x (unusedOf ns) ≡ times x (f .unused)
+      at-slot lt (inl k) = used-none ns x (k .0) ∙ sym (k .1)
+      at-slot lt (inr k) = unused-one ns x (omega (arith, size)) (ap (λ (n : S.Node). n .kind) (k .0)) ∙ sym (k .1)
+
+      by : Dec (x < u .nodes) → times x (unusedOf ns) ≡ times x (f .unused)
+      by (yes lt) = at-slot lt (each x lt)
+      by (no past) =
+          omega (arith, unused-past ns x (omega (arith, size)), rw (le-ltb x (u .nodes) (omega arith)) at (s .trees 1 .once x))
+
+  blank : Blank ns
+  blank x e = by (decLt x (u .nodes))
+    where
+      at-slot : Either x → nth ns x ≡ unused
+      at-slot (inl k) = absurd (k .0 e)
+      at-slot (inr k) = k .0
+
+      by : Dec (x < u .nodes) → nth ns x ≡ unused
+      by (yes lt) = at-slot (each x lt)
+      by (no past) = List·getD-eq-default ns unused (omega (arith, size))
+
+  pub forest-held : HoldsForest ns f
+  forest-held = record { trees = trees; unused = ascending-same (unused-up ns) (s .trees 0 .ascending) same; blank = blank }
 
 -- NODESOF HOLDS A SOUND FOREST
 
@@ -159,29 +203,15 @@ module _ (given : PoolSettings) (f : Forest) (sound : SoundForest given f) where
       all-both (λ c g e. nth-from n (forestCells f) (c .slot) (low (c .slot) g) ∙ e)
       (by-place (λ (c : Cell). 0 < times (c .slot) (places (forestCells f))) (forestCells f) (λ c g. g)) (node-own (forestCells f) apart)
 
-  same-unused : (s : ℕ) → times s (unusedOf (nodesOf n f)) ≡ times s (f .unused)
-  same-unused s = by (decLt s n) (decLt 0 (times s (places (forestCells f))))
+  unused-free : (s : ℕ) → 0 < times s (f .unused) → nth (nodesOf n f) s ≡ unused
+  unused-free s on = by (decLt s n)
     where
-      by : Dec (s < n) → Dec (0 < times s (places (forestCells f))) → times s (unusedOf (nodesOf n f)) ≡ times s (f .unused)
-      by (yes h) (yes u) =
-          omega (arith, used-none (nodesOf n f) s (used-by (nodesOf n f) (forestCells f) (forest-full f) nodesOf-stand s u), inside s h)
-      by (yes h) (no u) =
-          let z : times s (places (forestCells f)) ≡ 0 = omega arith in
-          let kind : nth (nodesOf n f) s .kind ≡ unusedKind = ap (λ (m : S.Node). m .kind) (nth-from n (forestCells f) s h ∙ node-none (forestCells f) s z) in
-          let in-range : s < length (nodesOf n f) = omega (arith, length-nodesOf n f) in
-          omega (arith, unused-one (nodesOf n f) s in-range kind, inside s h)
-      by (no h) u =
-          let le : n ≤ s = omega arith in
-          let past : length (nodesOf n f) ≤ s = omega (arith, length-nodesOf n f) in
-          omega (arith, unused-past (nodesOf n f) s past, outside s le)
+      by : Dec (s < n) → nth (nodesOf n f) s ≡ unused
+      by (yes h) = nth-from n (forestCells f) s h ∙ node-none (forestCells f) s (omega (arith, inside s h))
+      by (no h) = nth-past n (forestCells f) s (omega arith)
 
   pub nodesOf-hold : HoldsForest (nodesOf n f) f
-  nodesOf-hold =
-      record {
-        trees = both-hold (nodesOf n f) f nodesOf-stand;
-        unused = ascending-same (unused-up (nodesOf n f)) (sound .trees 0 .ascending) same-unused;
-        blank = nodesOf-have (λ (m : S.Node). m .kind ≡ unusedKind → m ≡ unused) (λ e. refl) n f (all-map (λ (c : Cell) (g : Full c) e. absurd (g e)) (forest-full f));
-      }
+  nodesOf-hold = forest-held given f sound (nodesOf n f) (length-nodesOf n f) (both-hold (nodesOf n f) f nodesOf-stand) unused-free
 
   -- NODES THAT HOLD IT ARE NODESOF
 

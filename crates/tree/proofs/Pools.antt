@@ -1,7 +1,6 @@
 -- Sound pools and sound forests are one and the same: a sound pool is the image of its forest, and the image of a sound forest is a sound pool of
 -- that forest. Assumes nothing.
 use mathlib.Core.Path.{_≡_, refl, sym, ap, _∙_, subst}
-use mathlib.Core.Logic.{_≢_}
 use mathlib.Core.List.{List, [], _∷_, _++_, map}
 use Prim.Native.Nat.{ℕ, zero, suc, _+_, _*_, _≤_, _<_}
 use native.Mathlib.Omega.{arith}
@@ -12,7 +11,7 @@ use Rattle.slots_raw.specs.Slots.{width, headLen, headIn, seen}
 use Rattle.slots_raw.specs.Contracts.{Shape}
 use Rattle.slots_raw.proofs.Views.{seen-unused}
 use Rattle.slots_pool.specs.Header.{layoutOf, settingsOf, headerOf}
-use Rattle.slots.specs.Nodes.{unusedKind, nodeSeen, nodes, nth, Held}
+use Rattle.slots.specs.Nodes.{nodeSeen, nodes, nth, Held}
 use Rattle.slots.specs.Nodes as S
 use Rattle.slots_pool.specs.Image.{image}
 use Rattle.slots_pool.proofs.Images.{image-of, image-nodes}
@@ -25,7 +24,7 @@ use Rattle.model.specs.Tree.{Index, slotsOf}
 use Rattle.model.specs.Sound.{rowsFor, rootFor, handed, PoolLimits, Once, Sound}
 use Rattle.model.specs.Forest.{Forest, plantedOf, planted, treeOf, elsewhere, SoundForest}
 use Rattle.model.proofs.Layers.{limits-at, handed-roomy, handed-most}
-use Rattle.model.proofs.Lists.{times-append}
+use Rattle.model.proofs.Forest.{once-each}
 use Rattle.tree.specs.Bridge.{Holds, Blank, unusedOf, HoldsIndex, HoldsForest}
 use Rattle.tree.specs.Pool.{poolLen, nodesOf, wordsOf, imageOf, givenIn, settingsIn, nodesIn, indexOf, forestOf, Zeros, SoundNodes, SoundPool}
 use Rattle.tree.specs.Contracts.{InPool}
@@ -47,11 +46,6 @@ pub blank-seen : (root : ℕ) (ns : List S.Node) → Blank ns → Blank (map (no
 blank-seen root ns b s e =
     let here = nth-seen root ns s in
     here ∙ ap (nodeSeen root) (b s (seen-unused root (nth ns s .kind) (sym (ap (λ (n : S.Node). n .kind) here) ∙ e))) ∙ seen-none root
-
--- a slot that is in use to one is in use
-pub used-seen : (root : ℕ) (ns : List S.Node) (s : ℕ) → nth (map (nodeSeen root) ns) s .kind ≢ unusedKind → nth ns s .kind ≢ unusedKind
-used-seen root ns s u e =
-    u (ap (λ (n : S.Node). n .kind) (nth-seen root ns s) ∙ ap (seen root) e ∙ ap (λ (n : S.Node). n .kind) (seen-none root))
 
 -- nodes that hold a forest hold each of its trees, as that sees them
 pub holds-tree : (given : PoolSettings) (W : List ℕ) (f : Forest) → HoldsForest (nodes (handed given 0) W) f → (i : ℕ)
@@ -116,46 +110,26 @@ module _ (l : List ℕ) (s : SoundPool l) where
   pub sound-holds-index : (i : ℕ) → HoldsIndex (nodesIn l i) (indexOf l i)
   sound-holds-index i = subst (HoldsIndex (nodesIn l i)) (tree-of l i) (holds-tree (givenIn l) (words l) (forestOf l) sound-holds-forest i)
 
-  -- both trees are sound, each beside the other
-  pub sound-forest : SoundForest (givenIn l) (forestOf l)
-  sound-forest = record { limits = s .settings; trees = tree }
-    where
-      tree : (i : ℕ) → Sound (handed (givenIn l) i) (elsewhere i (forestOf l)) (treeOf i (forestOf l))
-      tree zero =
-          let n : SoundNodes (settingsIn l 0) (nodesIn l 0) = s .trees 0 in
-          record {
-            settings = s .settings .0;
-            rootSlot = slot-read (nodesIn l 0) (indexOf l 0 .height) 0;
-            once = λ t.
-                omega (
-                  arith,
-                  s .once t,
-                  times-append t (slotsOf (indexOf l 0)) (slotsOf (indexOf l 1)),
-                  times-append t (slotsOf (indexOf l 1)) (slotsOf (indexOf l 0)),
-                );
-            shallow = n .shallow;
-            rooted = n .rooted;
-            whole = n .whole;
-            sorted = n .sorted;
-            fit = n .fit;
-            ascending = unused-up (nodesIn l 0);
-          }
-      tree (suc i) =
-          let n : SoundNodes (settingsIn l 1) (nodesIn l 1) = s .trees 1 in
-          record {
-            settings = s .settings .1;
-            rootSlot = slot-read (nodesIn l 1) (indexOf l 1 .height) 1;
-            once = s .once;
-            shallow = n .shallow;
-            rooted = n .rooted;
-            whole = n .whole;
-            sorted = n .sorted;
-            fit = n .fit;
-            ascending = unused-up (nodesIn l 0);
-          }
-
+  -- each tree is sound beside the other
   pub sound-index : (i : ℕ) → Sound (settingsIn l i) (elsewhere i (forestOf l)) (indexOf l i)
-  sound-index i = subst (Sound (settingsIn l i) (elsewhere i (forestOf l))) (tree-of l i) (sound-forest .trees i)
+  sound-index i =
+      let n : SoundNodes (settingsIn l i) (nodesIn l i) = s .trees i in
+      record {
+        settings = limits-at (givenIn l) (s .settings) i;
+        rootSlot = slot-read (nodesIn l i) (indexOf l i .height) (rootFor i);
+        once = subst (λ (x : Index). Once (givenIn l .nodes) (elsewhere i (forestOf l) ++ slotsOf x) (x .unused)) (tree-of l i)
+            (once-each (givenIn l .nodes) (forestOf l) (s .once) i);
+        shallow = n .shallow;
+        rooted = n .rooted;
+        whole = n .whole;
+        sorted = n .sorted;
+        fit = n .fit;
+        ascending = unused-up (nodesIn l i);
+      }
+
+  pub sound-forest : SoundForest (givenIn l) (forestOf l)
+  sound-forest =
+      record { limits = s .settings; trees = λ i. subst (Sound (settingsIn l i) (elsewhere i (forestOf l))) (sym (tree-of l i)) (sound-index i) }
 
   -- no node of it has more than 32 rows, whoever sees them
   pub sound-narrow : (i t : ℕ) → length (nth (nodesIn l i) t .rows) ≤ 32

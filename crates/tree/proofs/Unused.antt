@@ -12,7 +12,7 @@ use lib.ListN.{length, set, List·getD-eq-default}
 use borrow.Author.Tests.{lt-ltb, le-ltb, eq-eqb, ne-eqb}
 use Rattle.slots_raw.specs.Slots.{seen}
 use Rattle.slots_raw.proofs.Views.{seen-unused}
-use Rattle.slots.proofs.Others.{seen-none}
+use Rattle.slots.proofs.Others.{seen-none, nth-seen}
 use Rattle.slots.specs.Nodes.{unusedKind, nth, unused}
 use Rattle.slots.specs.Nodes as S
 use Rattle.slots_find.specs.Contracts.{Lowest}
@@ -171,3 +171,8 @@ seen-from root s (n ∷ ns) = rw (seen-kind root (n .kind), seen-from root (suc 
 
 pub unused-seen : (root : ℕ) (ns : List S.Node) → unusedOf (map (S.nodeSeen root) ns) ≡ unusedOf ns
 unused-seen root ns = seen-from root 0 ns
+
+-- a slot that is in use to one is in use
+pub used-seen : (root : ℕ) (ns : List S.Node) (s : ℕ) → nth (map (S.nodeSeen root) ns) s .kind ≢ unusedKind → nth ns s .kind ≢ unusedKind
+used-seen root ns s u e =
+    u (ap (λ (n : S.Node). n .kind) (nth-seen root ns s) ∙ ap (seen root) e ∙ ap (λ (n : S.Node). n .kind) (seen-none root))

@@ -129,7 +129,7 @@ pub fn totals(pool: &[u8], tree: u64, totals: &mut [u64; 3]) -> u32 {
     unsafe { c::alarm_totals(pool.as_ptr(), pool.len(), tree, totals) }
 }
 
-/// Copies both trees of the source into the target, a new pool of its orders and minima: each level as few nodes as can be, every one of them
+/// Copies both trees of the source into the target, a new pool of its orders and minimums: each level as few nodes as can be, every one of them
 /// full but the last. Refused as 2, 17, 18, 7.
 #[must_use]
 pub fn pack(source: &[u8], target: &mut [u8]) -> u32 {

@@ -3,7 +3,7 @@ use mathlib.Core.Path.{_≡_, refl, sym, ap}
 use mathlib.Core.Logic.{_≢_}
 use Prim.Native.Nat.{ℕ, zero, suc}
 use Rattle.survey.specs.declared.Findings.{Findings}
-use Rattle.index_named.specs.Contracts.{heightFor}
+use Rattle.survey.specs.Contracts.{heightFor}
 use Rattle.index_named.proofs.height_for.Statement.{statement}
 use Rattle.index_named.proofs.height_for.Tie as tie
 

@@ -6,7 +6,7 @@ use borrow.Author.Needs.{needs}
 use Rattle.words.specs.Words.{words}
 use Rattle.tree.specs.Pool.{settingsIn}
 use Rattle.index_pack.specs.Plan.{planFor}
-use Rattle.index_pack.proofs.Finds.{found-limits, first-in, second-in}
+use Rattle.index_pack.proofs.Finds.{found-limits, found-tree}
 use Rattle.index_pack.proofs.Tells.{plan-is, nodes-few, told-7, first-ready, second-ready, told-done}
 use Rattle.index_pack.proofs.copy_trees.Statement.{statement}
 use Rattle.index_pack.proofs.copy_trees.Tie as tie
@@ -15,13 +15,13 @@ handed-requires : tie.Need-handed-requires
 handed-requires c κs = found-limits (c .before .before .pre .source)
 
 plan-tree-requires : tie.Need-plan-tree-requires
-plan-tree-requires c κs = first-in (c .before .before .before .pre .source) (c .handed .result) (c .handed .ensures)
+plan-tree-requires c κs = found-tree (c .before .before .before .pre .source) 0 (c .handed .result) (c .handed .ensures)
 
 handed-requires-2 : tie.Need-handed-requires-2
 handed-requires-2 c κs = found-limits (c .before .before .before .before .pre .source)
 
 plan-tree-requires-2 : tie.Need-plan-tree-requires-2
-plan-tree-requires-2 c κs = second-in (c .before .before .before .before .before .pre .source) (c .handed2 .result) (c .handed2 .ensures)
+plan-tree-requires-2 c κs = found-tree (c .before .before .before .before .before .pre .source) 1 (c .handed2 .result) (c .handed2 .ensures)
 
 handed-requires-3 : tie.Need-handed-requires-3
 handed-requires-3 c κs = found-limits (c .before .before .before .before .before .before .pre .target)

@@ -1,5 +1,5 @@
 -- `is_new` meets its contract: the first tree tells that it is not (`first-old`), or else the second tells (`second-tells`). Assumes nothing.
-use Rattle.index_pack.proofs.Finds.{found-limits, first-in, second-in, first-old, second-tells}
+use Rattle.index_pack.proofs.Finds.{found-limits, found-tree, first-old, second-tells}
 use Rattle.index_pack.proofs.is_new.Statement.{statement}
 use Rattle.index_pack.proofs.is_new.Tie as tie
 
@@ -7,7 +7,7 @@ handed-requires : tie.Need-handed-requires
 handed-requires c κs = found-limits (c .before .pre)
 
 is-bare-requires : tie.Need-is-bare-requires
-is-bare-requires c κs = first-in (c .before .before .pre) (c .handed .result) (c .handed .ensures)
+is-bare-requires c κs = found-tree (c .before .before .pre) 0 (c .handed .result) (c .handed .ensures)
 
 returns : tie.Need-returns
 returns c =
@@ -19,7 +19,7 @@ handed-requires-2 : tie.Need-handed-requires-2
 handed-requires-2 c κs = found-limits (c .before .before .before .before .pre)
 
 is-bare-requires-2 : tie.Need-is-bare-requires-2
-is-bare-requires-2 c κs = second-in (c .before .before .before .before .before .pre) (c .handed2 .result) (c .handed2 .ensures)
+is-bare-requires-2 c κs = found-tree (c .before .before .before .before .before .pre) 1 (c .handed2 .result) (c .handed2 .ensures)
 
 returns-2 : tie.Need-returns-2
 returns-2 c =
