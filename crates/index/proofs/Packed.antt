@@ -7,11 +7,11 @@ use native.Mathlib.Omega.{arith}
 use Rattle.model.specs.declared.Entry.{Entry}
 use Rattle.model.specs.Tree.{entriesOf}
 use Rattle.model.specs.Answer.{Answer, refused, done, unless}
-use Rattle.model.specs.Packing.{Over, Least}
+use Rattle.model_pack.specs.Packing.{Over, Least}
 use Rattle.model.specs.Forest.{Forest, treeOf, elsewhere, SoundForest}
-use Rattle.model.specs.PackForest.{packedFrom, packForestRefusal, IsPackedForest, PacksForest}
+use Rattle.model_pack.specs.PackForest.{packedFrom, packForestRefusal, IsPackedForest, PacksForest}
 use Rattle.model.proofs.Answers.{refused-done}
-use Rattle.model.proofs.PackForest.{UnrefusedForest, unrefused-forest, packing-forest, pack-forest-room}
+use Rattle.model_pack.proofs.PackForest.{UnrefusedForest, unrefused-forest, packing-forest, pack-forest-room}
 use Rattle.tree.specs.Pool.{SoundPool, givenIn, settingsIn, indexOf, forestOf, imageOf}
 use Rattle.tree.proofs.Pools.{sound-index, sound-forest, image-sound, image-forest, image-index, image-given}
 use Rattle.index_promise.specs.declared.PackAnswer.{PackAnswer}

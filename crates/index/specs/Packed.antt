@@ -6,8 +6,8 @@ use mathlib.Core.List.{List}
 use Rattle.model.specs.declared.Entry.{Entry}
 use Rattle.model.specs.Lists.{All}
 use Rattle.model.specs.Tree.{entriesOf}
-use Rattle.model.specs.Packing.{Least}
-use Rattle.model.specs.PackForest.{IsPackedForest}
+use Rattle.model_pack.specs.Packing.{Least}
+use Rattle.model_pack.specs.PackForest.{IsPackedForest}
 use Rattle.model.specs.Demands.{Lent}
 use Rattle.tree.specs.Pool.{SoundPool, givenIn, settingsIn, indexOf, forestOf}
 use Rattle.index_promise.specs.declared.PackAnswer.{PackAnswer}

@@ -15,8 +15,8 @@ use Rattle.model.specs.declared.PoolSettings.{PoolSettings}
 use Rattle.model.specs.declared.Settings.{Settings}
 use Rattle.model.specs.declared.Totals.{Totals}
 use Rattle.model.specs.Tree.{len, entriesOf, totalsOf}
-use Rattle.model.specs.Pack.{differ, isNew}
-use Rattle.model.specs.PackForest.{forestsDiffer}
+use Rattle.model_pack.specs.Pack.{differ, isNew}
+use Rattle.model_pack.specs.PackForest.{forestsDiffer}
 use Rattle.model.specs.Sound.{rootFor}
 use Rattle.tree.specs.Bridge.{entryOf, childOf, treeAt}
 use Rattle.tree.specs.Pool.{nodesIn, indexOf}

@@ -19,12 +19,12 @@ use Rattle.model.specs.Lists.{times, upFrom}
 use Rattle.model.specs.Tree.{Tree, entriesOf, slots}
 use Rattle.model.specs.Sound.{rootFor}
 use Rattle.model.specs.Forest.{Forest, planted, SoundForest}
-use Rattle.model.specs.PackForest.{packedTree, nodeCount, nodesUsed, isNewForest, packedFrom}
+use Rattle.model_pack.specs.PackForest.{packedTree, nodeCount, nodesUsed, isNewForest, packedFrom}
 use Rattle.model.proofs.Layers.{handed-root}
 use Rattle.model.proofs.Lists.{hit-other}
 use Rattle.model.proofs.Numbers.{run-below, run-above}
-use Rattle.model.proofs.Packs.{packed-slot, packed-slots}
-use Rattle.model.proofs.PackForest.{packed-forest-sound}
+use Rattle.model_pack.proofs.Packs.{packed-slot, packed-slots}
+use Rattle.model_pack.proofs.PackForest.{packed-forest-sound}
 use Rattle.tree.specs.Bridge.{Holds}
 use Rattle.tree.specs.Pool.{SoundPool, givenIn, settingsIn, indexOf, forestOf, imageOf}
 use Rattle.tree.proofs.Cells.{agree-tree}

@@ -5,8 +5,8 @@ use mathlib.Core.Bool.{Bool, true, false, not, _&&_}
 use mathlib.Core.List.{List}
 use borrow.Author.Tests.{not-true, not-false}
 use Rattle.model.specs.declared.Settings.{Settings}
-use Rattle.model.specs.Pack.{isNew}
-use Rattle.model.specs.PackForest.{isNewForest}
+use Rattle.model_pack.specs.Pack.{isNew}
+use Rattle.model_pack.specs.PackForest.{isNewForest}
 use Rattle.model.specs.Sound.{rootFor, handed, PoolLimits}
 use Rattle.tree.specs.Pool.{SoundPool, givenIn, settingsIn, indexOf, forestOf}
 use Rattle.tree.specs.Contracts.{InPool}

@@ -8,8 +8,8 @@ use lib.Dec.{ltb}
 use borrow.Author.Tests.{lt-ltb, le-ltb}
 use Rattle.model.specs.Answer.{Answer, done, unless}
 use Rattle.model.specs.Forest.{Forest}
-use Rattle.model.specs.PackForest.{nodesUsed, isNewForest, forestsDiffer, packedFrom, packForestRefusal}
-use Rattle.model.proofs.PackForest.{not-differ-forest}
+use Rattle.model_pack.specs.PackForest.{nodesUsed, isNewForest, forestsDiffer, packedFrom, packForestRefusal}
+use Rattle.model_pack.proofs.PackForest.{not-differ-forest}
 use Rattle.tree.specs.Pool.{SoundPool, givenIn, settingsIn, forestOf, imageOf}
 use Rattle.index_promise.specs.declared.PackAnswer.the-variants as Pack
 use Rattle.index_promise.specs.Promise.{holds, fails, Left, _leaving_, leaves, Packs}

@@ -12,13 +12,13 @@ use Rattle.model.specs.declared.Entry.{Entry}
 use Rattle.model.specs.declared.Settings.{Settings}
 use Rattle.model.specs.Tree.{Tree, entriesOf}
 use Rattle.model.specs.Frame.{nodesIn as howMany}
-use Rattle.model.specs.Pack.{capacity, heightFor, packed}
-use Rattle.model.specs.Packing.{Over}
+use Rattle.model_pack.specs.Pack.{capacity, heightFor, packed}
+use Rattle.model_pack.specs.Packing.{Over}
 use Rattle.model.specs.Forest.{elsewhere}
-use Rattle.model.specs.PackForest.{packedTree}
+use Rattle.model_pack.specs.PackForest.{packedTree}
 use Rattle.model.proofs.Layers.{limits-at}
-use Rattle.model.proofs.Pieces.{height-fits, height-most}
-use Rattle.model.proofs.Packs.{over-fits}
+use Rattle.model_pack.proofs.Pieces.{height-fits, height-most}
+use Rattle.model_pack.proofs.Packs.{over-fits}
 use Rattle.tree.specs.Pool.{SoundPool, givenIn, settingsIn, indexOf, forestOf}
 use Rattle.tree.specs.Contracts.{InPool}
 use Rattle.tree.proofs.Few.{entries-most}

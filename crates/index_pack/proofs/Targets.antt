@@ -13,11 +13,11 @@ use Rattle.model.specs.declared.PoolSettings.{PoolSettings}
 use Rattle.model.specs.Lists.{times, upFrom}
 use Rattle.model.specs.Sound.{rootFor, handed}
 use Rattle.model.specs.Forest.{indexWith, treeOf, bareLeaf}
-use Rattle.model.specs.PackForest.{isNewForest}
+use Rattle.model_pack.specs.PackForest.{isNewForest}
 use Rattle.model.proofs.Layers.{handed-root}
 use Rattle.model.proofs.Lists.{all-head}
 use Rattle.model.proofs.Numbers.{run-inside}
-use Rattle.model.proofs.PackForest.{new-forest-is}
+use Rattle.model_pack.proofs.PackForest.{new-forest-is}
 use Rattle.tree.specs.Bridge.{HoldsIndex}
 use Rattle.tree.specs.Pool.{SoundPool, givenIn, settingsIn, nodesIn, forestOf}
 use Rattle.tree.proofs.Unused.{used-none}

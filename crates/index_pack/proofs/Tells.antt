@@ -10,7 +10,7 @@ use Rattle.words.specs.Words.{words}
 use Rattle.words.proofs.Laws.{Bytes}
 use Rattle.model.specs.declared.PoolSettings.{PoolSettings}
 use Rattle.model.specs.declared.Settings.{Settings}
-use Rattle.model.specs.PackForest.{isNewForest, forestsDiffer}
+use Rattle.model_pack.specs.PackForest.{isNewForest, forestsDiffer}
 use Rattle.model.specs.Sound.{rootFor, handed}
 use Rattle.tree.specs.Pool.{SoundPool, givenIn, settingsIn, forestOf}
 use Rattle.survey.specs.declared.Findings.{Findings}

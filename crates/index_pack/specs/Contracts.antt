@@ -3,7 +3,7 @@ use Prim.Native.Nat.{ℕ}
 use mathlib.Core.Path.{_≡_}
 use mathlib.Core.Bool.{true, false}
 use mathlib.Core.List.{List}
-use Rattle.model.specs.PackForest.{isNewForest, forestsDiffer}
+use Rattle.model_pack.specs.PackForest.{isNewForest, forestsDiffer}
 use Rattle.tree.specs.Pool.{givenIn, forestOf}
 use Rattle.survey.specs.declared.Findings.{Findings}
 use Rattle.survey.specs.Contracts.{Surveyed}

@@ -3,7 +3,7 @@ use Prim.Native.Nat.{ℕ}
 use mathlib.Core.List.{List}
 use lib.ListN.{length}
 use Rattle.model.specs.Tree.{entriesOf}
-use Rattle.model.specs.Pack.{heightFor}
+use Rattle.model_pack.specs.Pack.{heightFor}
 use Rattle.tree.specs.Pool.{settingsIn, indexOf}
 use Rattle.pack_plan.specs.Plan.{packedNodes}
 use Rattle.pack.specs.declared.Piece.{Piece}

@@ -13,7 +13,7 @@ use Rattle.model.specs.Look.{Listing, Scanned, scan}
 use Rattle.model.specs.Refuse.{Call, get}
 use Rattle.model.specs.Frame.{writeNode}
 use Rattle.model.specs.Forest.{replant, newForest, named, answerAt}
-use Rattle.model.specs.PackForest.{packForest}
+use Rattle.model_pack.specs.PackForest.{packForest}
 use Rattle.model.specs.Sound.{PoolLimits}
 use Rattle.tree.specs.Pool.{SoundPool, givenIn, indexOf, forestOf, imageOf, poolLen}
 use Rattle.index_promise.specs.declared.OpenAnswer.{OpenAnswer}

@@ -16,15 +16,8 @@ pub mod OverFull
 pub mod Separators
 pub mod Interiors
 pub mod Calls
-pub mod Pieces
-pub mod Packs
-pub mod Levels
-pub mod Least
-pub mod Only
-pub mod Packing
 pub mod LiveSizes
 pub mod Demands
 pub mod Forest
 pub mod TwoTrees
-pub mod PackForest
 pub mod Cases

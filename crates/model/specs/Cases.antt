@@ -3,7 +3,7 @@
 use mathlib.Core.Path.{_≡_}
 use mathlib.Core.Bool.{Bool, true, false}
 use mathlib.Core.List.{List, [], _∷_, map}
-use Prim.Native.Nat.{ℕ, zero, suc, _+_, _-_}
+use Prim.Native.Nat.{ℕ, _+_, _-_}
 use Prim.Native.Char.{code}
 use Prim.Native.String as String
 use lib.ListN.{length, take}
@@ -32,7 +32,6 @@ use Rattle.model.specs.Look.{Listing, requestFor, scan}
 use Rattle.model.specs.Refuse.{Call, answer, indexAfter, get}
 use Rattle.model.specs.Forest.{Forest, treeOf, replant, newForest, refusalAt}
 use Rattle.model.specs.TwoTrees.{Turn, runForest}
-use Rattle.model.specs.PackForest.{packedForest, packedFrom, packForestRefusal}
 use Rattle.model.specs.Frame.{Frame, leaf, interior, framesOf, lineOf}
 use Rattle.model.specs.ReadFrame.{readLine}
 use Rattle.model.specs.LiveSizes.{clear, scanByAll}
@@ -240,14 +239,6 @@ fiveOfEight = after eight (set (1 ∷ []) ∷ set (2 ∷ []) ∷ set (3 ∷ []) 
 abbrev pub light : Index
 light = after desk (record { operation = Op.SetEach; places = 257 ∷ 258 ∷ 259 ∷ []; sizes = 5 ∷ 5 ∷ 5 ∷ []; keys = 1 ∷ 2 ∷ 3 ∷ [] } ∷ []) P
 
--- the slots of the root's children, of a tree that is no leaf
-abbrev pub childSlotsOf : Index → List ℕ
-childSlotsOf x = go (x .height) (x .root)
-  where
-    go : (h : ℕ) → Tree h → List ℕ
-    go zero n = []
-    go (suc h) n = map (λ c. c .slot) (n .items)
-
 -- the pool of the cases, in which tree 0 is P, after some more batches
 abbrev pub pool : PoolSettings
 pool = both 16 4 2
@@ -327,21 +318,6 @@ readings =
     (shape (after desk (drop (11 ∷ 12 ∷ 13 ∷ 14 ∷ []) ∷ [])
     (twoGroves ((1 ∷ 2 ∷ 3 ∷ []) ∷ (4 ∷ 5 ∷ []) ∷ (6 ∷ 7 ∷ 8 ∷ 9 ∷ []) ∷ []) ((10 ∷ 11 ∷ 12 ∷ []) ∷ (13 ∷ 14 ∷ []) ∷ []))))
     (below ((1 ∷ 2 ∷ 3 ∷ []) ∷ (4 ∷ 5 ∷ []) ∷ (6 ∷ 7 ∷ 8 ∷ 9 ∷ []) ∷ (10 ∷ []) ∷ []))
-    -- P packed: the last leaf may be below the minimum
-    ∷ case Shape (shape (treeOf 0 (packedFrom pool (grown [])))) (below ((1 ∷ 2 ∷ 3 ∷ 4 ∷ []) ∷ (5 ∷ []) ∷ []))
-    -- seventeen entries: the first interior's leaves have the slots behind it, and then comes the second interior
-    ∷ case (List (List ℕ) × List ℕ)
-    (let x = treeOf 0 (packedForest pool (map (λ k. entryFor k (ref k)) (upFrom 1 17)) []) in (shape x .leaves, childSlotsOf x))
-    ((1 ∷ 2 ∷ 3 ∷ 4 ∷ []) ∷ (5 ∷ 6 ∷ 7 ∷ 8 ∷ []) ∷ (9 ∷ 10 ∷ 11 ∷ 12 ∷ []) ∷ (13 ∷ 14 ∷ 15 ∷ 16 ∷ []) ∷ (17 ∷ []) ∷ [], 2 ∷ 7 ∷ [])
-    -- both trees packed: the second's other nodes come behind the first's
-    ∷ case (List (List ℕ)) (let f = packedFrom pool (grown sameOnSecond) in slotsOf (treeOf 0 f) ∷ slotsOf (treeOf 1 f) ∷ [])
-    ((0 ∷ 2 ∷ 3 ∷ []) ∷ (1 ∷ 4 ∷ 5 ∷ []) ∷ [])
-    -- 17 before 18 before 7, and a target that has just the nodes that are needed, one for the second tree's leaf
-    ∷ case (List ℕ)
-    (let f = grown [] in
-    packForestRefusal pool (both 3 4 1) f f ∷ packForestRefusal pool (both 3 4 2) f f
-    ∷ packForestRefusal pool (both 3 4 2) f (newForest 3) ∷ packForestRefusal pool (both 4 4 2) f (newForest 4) ∷ [])
-    (17 ∷ 18 ∷ 7 ∷ 0 ∷ [])
     -- TWO TREES: 19 stands before 3, and 3 is by the order of the tree that is named
     ∷ case (List ℕ)
     (let g : PoolSettings = record { nodes = 16; first = record { order = 4; minimum = 2 }; second = record { order = 7; minimum = 3 } } in

@@ -1,5 +1,5 @@
--- Document 01 as definitions, one idea a file. `Sound`, `Demands`, `Packing`, `TwoTrees`, `PackForest` and `LiveSizes` say what is proved of them, in
--- proofs/; `Contracts` has the words of the inner crates' contracts.
+-- Document 01 as definitions, one idea a file. `Sound`, `Demands`, `TwoTrees` and `LiveSizes` say what is proved of them, in proofs/; `Contracts` has
+-- the words of the inner crates' contracts.
 pub mod Lists
 pub mod Tree
 pub mod Plain
@@ -10,13 +10,10 @@ pub mod Look
 pub mod Refuse
 pub mod Frame
 pub mod ReadFrame
-pub mod Pack
 pub mod Sound
 pub mod Contracts
 pub mod Demands
-pub mod Packing
 pub mod Forest
 pub mod TwoTrees
-pub mod PackForest
 pub mod LiveSizes
 pub mod Cases

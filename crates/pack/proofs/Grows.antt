@@ -22,12 +22,12 @@ use Rattle.model.specs.Contracts.{flat}
 use Rattle.model.specs.Lists.{times, upFrom, All, none, one}
 use Rattle.model.specs.Tree.{Tree, entries, slots}
 use Rattle.model.specs.Frame.{nodesIn}
-use Rattle.model.specs.Pack.{capacity, pieces, inPreorder, packed}
+use Rattle.model_pack.specs.Pack.{capacity, pieces, inPreorder, packed}
 use Rattle.model.specs.Sound.{Fits}
 use Rattle.model.proofs.Lists.{all-append, all-head, all-take, all-drop, parts-append, times-append}
 use Rattle.model.proofs.Trees.{slotsIn}
 use Rattle.model.proofs.Numbers.{run-near}
-use Rattle.model.proofs.Packs.{packed-entries, packed-slot, packed-preorder}
+use Rattle.model_pack.proofs.Packs.{packed-entries, packed-slot, packed-preorder}
 use Rattle.tree.specs.Bridge.{Stands, cellsOf, nodeFor, rowFor}
 use Rattle.tree.specs.Sums.{Sums}
 use Rattle.tree.proofs.Sums.{sums-fit}

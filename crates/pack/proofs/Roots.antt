@@ -11,8 +11,8 @@ use Rattle.slots.specs.Nodes as S
 use Rattle.slots.specs.Contracts.{NodesPut}
 use Rattle.slots.proofs.Nodes.{length-nodes}
 use Rattle.model.specs.declared.Settings.{Settings}
-use Rattle.model.specs.Pack.{capacity}
-use Rattle.model.proofs.Packs.{packed-slot}
+use Rattle.model_pack.specs.Pack.{capacity}
+use Rattle.model_pack.proofs.Packs.{packed-slot}
 use Rattle.tree.specs.Bridge.{kindFor}
 use Rattle.pack.specs.declared.Source.{Source}
 use Rattle.pack.specs.declared.Piece.{Piece}

@@ -7,7 +7,7 @@ use Rattle.slots.specs.Nodes as S
 use Rattle.model.specs.declared.Entry.{Entry}
 use Rattle.model.specs.declared.Settings.{Settings}
 use Rattle.model.specs.Tree.{Tree, entries}
-use Rattle.model.specs.Pack.{packed}
+use Rattle.model_pack.specs.Pack.{packed}
 use Rattle.tree.specs.Bridge.{kindFor, treeAt}
 use Rattle.tree_node.specs.Ask.{rowOver}
 use Rattle.pack.specs.declared.Source.{Source}

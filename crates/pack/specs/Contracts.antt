@@ -12,7 +12,7 @@ use Rattle.model.specs.declared.Settings.{Settings}
 use Rattle.model.specs.Lists.{All}
 use Rattle.model.specs.Tree.{Tree}
 use Rattle.model.specs.Frame.{nodesIn}
-use Rattle.model.specs.Pack.{capacity}
+use Rattle.model_pack.specs.Pack.{capacity}
 use Rattle.model.specs.Sound.{Fits}
 use Rattle.tree.specs.Bridge.{entryRow, treeAt, Holds}
 use Rattle.tree.specs.Contracts.{ToWeigh}

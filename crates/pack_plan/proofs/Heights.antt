@@ -4,8 +4,8 @@ use Prim.Native.Nat.{ℕ, zero, suc, _+_, _-_, _*_, _≤_, _<_}
 use native.Mathlib.Omega.{arith}
 use native.Mathlib.Numerals.{add-one}
 use borrow.Author.Tests.{le-leb, lt-leb}
-use Rattle.model.specs.Pack.{capacity, heightFrom, heightFor}
-use Rattle.model.proofs.Pieces.{capacity-most}
+use Rattle.model_pack.specs.Pack.{capacity, heightFrom, heightFor}
+use Rattle.model_pack.proofs.Pieces.{capacity-most}
 
 pub capacity-next : (o h most : ℕ) → most ≡ capacity o h → o * most ≡ capacity o (h + 1)
 capacity-next o h most e = ap (λ (m : ℕ). o * m) e ∙ ap (capacity o) (sym (add-one h))

@@ -7,7 +7,7 @@ use lib.ListN.{length, take, drop, length-append, length-take, length-drop}
 use Rattle.model.specs.declared.Entry.{Entry}
 use Rattle.model.specs.Tree.{Tree, slots}
 use Rattle.model.specs.Frame.{nodesIn}
-use Rattle.model.specs.Pack.{capacity, pieces, inPreorder, packed}
+use Rattle.model_pack.specs.Pack.{capacity, pieces, inPreorder, packed}
 use Rattle.model.proofs.Trees.{slotsIn, leaf-bare}
 use Rattle.pack_plan.specs.Plan.{overPieces, packedNodes}
 

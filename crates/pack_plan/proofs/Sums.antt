@@ -3,8 +3,8 @@ use mathlib.Core.Path.{_≡_, refl, ap, _∙_}
 use Prim.Native.Nat.{ℕ, zero, suc, _+_, _-_, _*_, _≤_, _<_, min}
 use native.Mathlib.Omega.{arith}
 use native.Mathlib.Nat.{zero-mul, suc-mul, mul-add, mul-le-mul-right}
-use Rattle.model.specs.Pack.{capacity}
-use Rattle.model.proofs.Pieces.{capacity-some}
+use Rattle.model_pack.specs.Pack.{capacity}
+use Rattle.model_pack.proofs.Pieces.{capacity-some}
 use Rattle.pack_plan.specs.Plan.{overPieces, packedNodes}
 use Rattle.pack_plan.specs.Contracts.{ToCount}
 

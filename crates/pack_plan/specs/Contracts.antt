@@ -1,7 +1,7 @@
 -- What is asked and promised of the numbers that are worked out before a pool is packed. Assumes nothing.
 use Prim.Native.Nat.{ℕ, _+_, _*_, _≤_, _<_}
 use mathlib.Core.Path.{_≡_}
-use Rattle.model.specs.Pack.{capacity}
+use Rattle.model_pack.specs.Pack.{capacity}
 use Rattle.pack_plan.specs.Plan.{packedNodes}
 
 -- an order and a height within the limits, so that every capacity fits a word

@@ -1,6 +1,6 @@
 -- How many nodes a packed tree has, by numbers alone, in the shape of the tree's own definition. Assumes nothing.
 use Prim.Native.Nat.{ℕ, zero, suc, _+_, _-_, min}
-use Rattle.model.specs.Pack.{capacity}
+use Rattle.model_pack.specs.Pack.{capacity}
 
 -- the sum of f over the pieces of n into which m is cut, the last of them what is left; `most` pieces at most
 abbrev pub overPieces : ℕ → ℕ → (ℕ → ℕ) → ℕ → ℕ

@@ -1,7 +1,7 @@
 // The numbers of a packed tree, known before anything is written: how much a tree can hold, how high it must be, and how many nodes it has.
 ghost use mathlib.Core.Path.{_≡_};
 ghost use Prim.Native.Nat.{_≤_};
-ghost use Rattle.model.specs.Pack as pack;
+ghost use Rattle.model_pack.specs.Pack as pack;
 ghost use Rattle.pack_plan.specs.Contracts.{ToMeasure, ToCount, Counted};
 use model_code::lesser;
 

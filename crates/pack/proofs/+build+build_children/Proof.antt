@@ -8,7 +8,7 @@ use borrow.Author.Needs.{needs}
 use borrow.Fn.Kinds.{In}
 use borrow.Fn.PlainCycle.{Measures, is, falls, and}
 use Rattle.words.specs.Words.{words}
-use Rattle.model.proofs.Pieces.{capacity-some}
+use Rattle.model_pack.proofs.Pieces.{capacity-some}
 use Rattle.model_code.proofs.lesser.Reads as lesser-reads
 use Rattle.slots.proofs.set_kind.Reads as set-kind-reads
 use Rattle.tree.proofs.kind_for.Reads as kind-for-reads

@@ -6,8 +6,8 @@ use native.Mathlib.Omega.{arith}
 use borrow.Author.Needs.{needs}
 use borrow.Fn.Kinds.{In}
 use borrow.Fn.PlainCycle.{Measures, is, falls, and}
-use Rattle.model.specs.Pack as pack
-use Rattle.model.proofs.Pieces.{capacity-some, capacity-most}
+use Rattle.model_pack.specs.Pack as pack
+use Rattle.model_pack.proofs.Pieces.{capacity-some, capacity-most}
 use Rattle.pack_plan.specs.Plan.{packedNodes}
 use Rattle.pack_plan.proofs.Sums.{nodes-bound, Counting, counting-start, counting-more, counting-end}
 use Rattle.pack_plan.proofs.nodes_for.Reads as nodes-for

@@ -2,7 +2,7 @@
 use mathlib.Core.Path.{_≡_, refl, ap, _∙_}
 use Prim.Native.Nat.{_-_, _≤_}
 use native.Mathlib.Omega.{arith}
-use Rattle.model.specs.Pack as pack
+use Rattle.model_pack.specs.Pack as pack
 use Rattle.pack_plan.proofs.Heights.{capacity-next, capacity-fits}
 use Rattle.pack_plan.proofs.capacity.Statement.{statement}
 use Rattle.pack_plan.proofs.capacity.Tie as tie

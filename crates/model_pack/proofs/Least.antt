@@ -6,15 +6,15 @@ use native.Mathlib.Omega.{arith}
 use native.Mathlib.Decide.{decLe}
 use native.Mathlib.Nat.{le-refl, le-trans, lt-of-mul-lt-mul-left}
 use lib.ListN.{length}
 use Rattle.model.specs.declared.Entry.{Entry}
 use Rattle.model.specs.declared.Settings.{Settings}
 use Rattle.model.specs.Lists.{All, none, one}
 use Rattle.model.specs.Tree.{Tree, Index, len, entries, slots, entriesOf}
 use Rattle.model.specs.Sound.{Whole, Rooted}
-use Rattle.model.specs.Packing.{lengthsAt, level, Full, Over, Least}
+use Rattle.model_pack.specs.Packing.{lengthsAt, level, Full, Over, Least}
 use Rattle.model.proofs.Trees.{root-few}
-use Rattle.model.proofs.Levels.{sum, level-leaf, level-top, leaves-sum, level-sum, level-each, root-some, root-two}
-use Rattle.model.proofs.Levels.{lowNodes, low-grows, all-levels}
+use Rattle.model_pack.proofs.Levels.{sum, level-leaf, level-top, leaves-sum, level-sum, level-each, root-some, root-two}
+use Rattle.model_pack.proofs.Levels.{lowNodes, low-grows, all-levels}
 
 -- ONE LEVEL
 

@@ -6,17 +6,17 @@ use Prim.Native.Nat.{ℕ}
 use native.Mathlib.Omega.{arith}
 use lib.Dec.{eqb}
 use borrow.Author.Tests.{eqb-true, not-false}
 use Rattle.model.specs.declared.Entry.{Entry}
 use Rattle.model.specs.declared.Limits.{Limits}
 use Rattle.model.specs.declared.Settings.{Settings}
 use Rattle.model.specs.Tree.{Index}
-use Rattle.model.specs.Pack.{differ}
-use Rattle.model.specs.Packing.{Over, Least}
+use Rattle.model_pack.specs.Pack.{differ}
+use Rattle.model_pack.specs.Packing.{Over, Least}
 use Rattle.model.specs.Forest.{indexWith}
-use Rattle.model.specs.PackForest.{packedTree}
+use Rattle.model_pack.specs.PackForest.{packedTree}
 use Rattle.model.proofs.Lists.{both-left, both-right}
-use Rattle.model.proofs.Packs.{over-wide, is-packed-tree, packed-tree-whole, packed-tree-rooted}
-use Rattle.model.proofs.Least.{least-law}
+use Rattle.model_pack.proofs.Packs.{over-wide, is-packed-tree, packed-tree-whole, packed-tree-rooted}
+use Rattle.model_pack.proofs.Least.{least-law}
 
 pub not-differ : (a b : Limits) → differ a b ≡ false → (a .order ≡ b .order) × (a .minimum ≡ b .minimum)
 not-differ a b e =

@@ -8,10 +8,10 @@ use native.Mathlib.Nat.{le-of-suc-le-suc, suc-mul, zero-mul, mul-pos, mul-le-mul
 use lib.Dec.{leb}
 use lib.ListN.{length, take, drop, length-take, length-drop, length-map, take-append-drop}
 use borrow.Author.Tests.{leb-true, leb-false}
 use Rattle.model.specs.Lists.{concat, All, none, one}
-use Rattle.model.specs.Pack.{capacity, heightFrom, heightFor, pieces}
-use Rattle.model.specs.Packing.{Full}
+use Rattle.model_pack.specs.Pack.{capacity, heightFrom, heightFor, pieces}
+use Rattle.model_pack.specs.Packing.{Full}
 use Rattle.model.proofs.Lists.{by-test}
 
 -- WHAT A TREE CAN HOLD
 

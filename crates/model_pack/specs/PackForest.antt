@@ -7,17 +7,17 @@ use mathlib.Core.List.{List, _∷_}
 use Prim.Native.Nat.{ℕ, suc, _+_, _-_, _≤_}
 use lib.ListN.{length}
 use lib.Dec.{ltb}
 use Rattle.model.specs.declared.Entry.{Entry}
 use Rattle.model.specs.declared.PoolSettings.{PoolSettings}
 use Rattle.model.specs.declared.Settings.{Settings}
 use Rattle.model.specs.Lists.{upFrom}
 use Rattle.model.specs.Tree.{Index, entriesOf, slotsOf}
 use Rattle.model.specs.Answer.{Answer, done, unless}
 use Rattle.model.specs.Frame.{nodesIn}
-use Rattle.model.specs.Pack.{heightFor, packed, differ, isNew}
-use Rattle.model.specs.Packing.{level, Full, Over, Least}
+use Rattle.model_pack.specs.Pack.{heightFor, packed, differ, isNew}
+use Rattle.model_pack.specs.Packing.{level, Full, Over, Least}
 use Rattle.model.specs.Sound.{handed, PoolLimits}
 use Rattle.model.specs.Forest.{Planted, Forest, treeOf, newForest, SoundForest}
 
 -- THE FOREST
 

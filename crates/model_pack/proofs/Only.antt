@@ -8,22 +8,22 @@ use native.Mathlib.Decide.{decLt}
 use native.Mathlib.Nat.{le-refl, le-trans}
 use lib.ListN.{length, take, drop, length-append, drop-of-length-le}
 use lib.Seq.{take-all, take-at, drop-at}
 use Rattle.model.specs.declared.Entry.{Entry}
 use Rattle.model.specs.declared.Settings.{Settings}
 use Rattle.model.specs.Lists.{upFrom, All, none, one}
 use Rattle.model.specs.Tree.{Tree, Index, len, entries, slots, entriesOf, slotsOf}
 use Rattle.model.specs.Frame.{nodesIn}
 use Rattle.model.specs.Sound.{Whole, Rooted, Sound}
 use Rattle.model.specs.Contracts.{flat}
-use Rattle.model.specs.Pack.{capacity, heightFor, pieces, inPreorder, packed}
-use Rattle.model.specs.Packing.{lengthsAt, Full}
+use Rattle.model_pack.specs.Pack.{capacity, heightFor, pieces, inPreorder, packed}
+use Rattle.model_pack.specs.Packing.{lengthsAt, Full}
 use Rattle.model.specs.Forest.{indexWith}
-use Rattle.model.specs.PackForest.{packedTree, IsPackedTree}
+use Rattle.model_pack.specs.PackForest.{packedTree, IsPackedTree}
 use Rattle.model.proofs.Lists.{all-left, all-right, all-head}
 use Rattle.model.proofs.Trees.{flat-zero, slotsIn, separator-ends, root-few}
-use Rattle.model.proofs.Pieces.{capacity-up, height-fits, height-least}
-use Rattle.model.proofs.Packs.{tree-fits}
-use Rattle.model.proofs.Levels.{lengthsIn, level-top, level-below, row-some}
+use Rattle.model_pack.proofs.Pieces.{capacity-up, height-fits, height-least}
+use Rattle.model_pack.proofs.Packs.{tree-fits}
+use Rattle.model_pack.proofs.Levels.{lengthsIn, level-top, level-below, row-some}
 
 -- FULL LEVELS IN PARTS
 

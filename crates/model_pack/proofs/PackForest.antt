@@ -7,23 +7,23 @@ use native.Mathlib.Omega.{arith}
 use lib.Dec.{ltb}
 use lib.ListN.{length, length-append}
 use borrow.Author.Tests.{ltb-true, ltb-false}
 use Rattle.model.specs.declared.Entry.{Entry}
 use Rattle.model.specs.declared.PoolSettings.{PoolSettings}
 use Rattle.model.specs.Lists.{times, upFrom}
 use Rattle.model.specs.Tree.{Index, entriesOf, slotsOf}
 use Rattle.model.specs.Sound.{handed, PoolLimits, Once, Sound}
-use Rattle.model.specs.Pack.{differ, isNew}
-use Rattle.model.specs.Packing.{Over, Least}
+use Rattle.model_pack.specs.Pack.{differ, isNew}
+use Rattle.model_pack.specs.Packing.{Over, Least}
 use Rattle.model.specs.Forest.{Planted, Forest, indexWith, treeOf, elsewhere, plantedOf, bareLeaf, SoundForest}
-use Rattle.model.specs.PackForest.{packedTree, nodeCount, packedForest, nodesUsed, isNewForest, forestsDiffer, packedFrom, packForestRefusal, IsPackedForest, PackingForest, PackForestDone, PackForestRoom, NewForestIs, NewForestIsNew}
+use Rattle.model_pack.specs.PackForest.{packedTree, nodeCount, packedForest, nodesUsed, isNewForest, forestsDiffer, packedFrom, packForestRefusal, IsPackedForest, PackingForest, PackForestDone, PackForestRoom, NewForestIs, NewForestIsNew}
 use Rattle.model.proofs.Lists.{both-left, both-right, or-left, or-right, times-append}
 use Rattle.model.proofs.Answers.{unless-done}
 use Rattle.model.proofs.Numbers.{up-append, run-up, once-up, unused-only}
 use Rattle.model.proofs.Trees.{once-count}
-use Rattle.model.proofs.Packs.{is-packed-tree, packed-tree-sound, new-leaf}
-use Rattle.model.proofs.Packing.{not-differ, least-tree}
-use Rattle.model.proofs.Only.{only-tree}
+use Rattle.model_pack.proofs.Packs.{is-packed-tree, packed-tree-sound, new-leaf}
+use Rattle.model_pack.proofs.Packing.{not-differ, least-tree}
+use Rattle.model_pack.proofs.Only.{only-tree}
 use Rattle.model.proofs.Forest.{once-each, once-both}
 
 -- THE SLOTS of two packed trees are the first ones
 

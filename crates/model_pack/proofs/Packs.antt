@@ -10,21 +10,21 @@ use native.Mathlib.Nat.{le-trans, suc-mul, mul-le-mul-right}
 use lib.Dec.{eqb}
 use lib.ListN.{length, length-append}
 use borrow.Author.Tests.{eqb-true}
 use Rattle.model.specs.declared.Entry.{Entry}
 use Rattle.model.specs.declared.Settings.{Settings}
 use Rattle.model.specs.Lists.{concat, upFrom, All, none, one}
 use Rattle.model.specs.Tree.{Tree, Index, len, entries, slots, entriesOf, slotsOf}
 use Rattle.model.specs.Frame.{nodesIn}
 use Rattle.model.specs.Sound.{InLimits, Whole, Rooted, Sorted, Fits, Ascending, Once, Sound}
 use Rattle.model.specs.Contracts.{flat}
-use Rattle.model.specs.Pack.{capacity, heightFor, pieces, inPreorder, packed, isNew}
-use Rattle.model.specs.Packing.{lengthsAt, Full, Over}
+use Rattle.model_pack.specs.Pack.{capacity, heightFor, pieces, inPreorder, packed, isNew}
+use Rattle.model_pack.specs.Packing.{lengthsAt, Full, Over}
 use Rattle.model.specs.Forest.{bareLeaf, indexWith}
-use Rattle.model.specs.PackForest.{packedTree, IsPackedTree}
+use Rattle.model_pack.specs.PackForest.{packedTree, IsPackedTree}
 use Rattle.model.proofs.Lists.{by-test, both-left, both-right, all-append, all-every, all-both}
 use Rattle.model.proofs.Trees.{flat-zero, slotsIn, leaf-bare, root-few}
 use Rattle.model.proofs.Numbers.{up-append}
-use Rattle.model.proofs.Pieces.{capacity-some, capacity-up, height-fits, height-most, height-least, full-append, pieces-join, pieces-few, pieces-small, pieces-some, pieces-full, pieces-even, pieces-all, pieces-one, pieces-two}
+use Rattle.model_pack.proofs.Pieces.{capacity-some, capacity-up, height-fits, height-most, height-least, full-append, pieces-join, pieces-few, pieces-small, pieces-some, pieces-full, pieces-even, pieces-all, pieces-one, pieces-two}
 
 -- SIBLINGS, made by a function that packs each
 

@@ -9,14 +9,14 @@ use native.Mathlib.Nat.{le-refl}
 use lib.Dec.{eqb}
 use lib.ListN.{length, length-append}
 use borrow.Author.Tests.{eqb-true, eqb-false, eq-eqb, ne-eqb}
 use Rattle.model.specs.declared.Settings.{Settings}
 use Rattle.model.specs.Lists.{concat, All, none, one}
 use Rattle.model.specs.Tree.{Tree, len, entries, slots}
 use Rattle.model.specs.Sound.{Whole, Rooted}
 use Rattle.model.specs.Contracts.{flat}
-use Rattle.model.specs.Packing.{lengthsAt}
+use Rattle.model_pack.specs.Packing.{lengthsAt}
 use Rattle.model.proofs.Lists.{by-test, all-map, all-concat}
 use Rattle.model.proofs.Trees.{flat-zero, slotsIn, leaf-bare}
 
 -- NUMBERS ADDED UP
 
