@@ -28,7 +28,7 @@
 
 /* The version of these declarations: the first number rises where a call or a name changes its meaning, the second where one is added. */
 #define ALARM_INDEX_MAJOR 3
-#define ALARM_INDEX_MINOR 0
+#define ALARM_INDEX_MINOR 1
 
 /* The layout of a pool (docs/POOL.md). A pool of another layout is refused as ALARM_NOT_SOUND: so are all that were made up to version 2.0, which
  * have layout 1 and one tree. */
@@ -68,8 +68,10 @@ enum alarm_refusal {
 enum { ALARM_ADDED = 0, ALARM_REPLACED = 1, ALARM_REMOVED = 2, ALARM_NOTHING = 3 };
 /* of totals, */
 enum { ALARM_LIVE = 0, ALARM_DEAD = 1, ALARM_SIZE_SUM = 2 };
-/* of told, the third by a scan alone, */
-enum { ALARM_WRITTEN = 0, ALARM_MORE = 1, ALARM_OPENED = 2 };
+/* of told, the third by a scan and a portion alone, the fourth by a portion, */
+enum { ALARM_WRITTEN = 0, ALARM_MORE = 1, ALARM_OPENED = 2, ALARM_ENDED = 3 };
+/* of from, where a portion starts, */
+enum { ALARM_FROM_BOUNDED = 0, ALARM_FROM_INCLUDED = 1, ALARM_FROM_KEY = 2 };
 /* and of head, with the kinds that stand in the first of them. */
 enum { ALARM_KIND = 0, ALARM_ENTRIES = 1 };
 enum { ALARM_INTERIOR = 0, ALARM_LEAF = 1 };
@@ -145,6 +147,24 @@ uint32_t alarm_scan(const uint8_t *pool, size_t pool_n, uint64_t tree, bool star
                     bool end_bounded, bool end_included, uint64_t end, bool down, uint32_t least, uint8_t *out, size_t out_n,
                     uint64_t told[3]);
 
+/* Lists in portions, upwards, as a screen shows ten alarms and then ten more: as alarm_scan does, from a start that the caller keeps.
+ *
+ * from: whether the start is bounded and whether it is included, each if it is not 0, and its key; of a start that is not bounded the other two
+ * are not read. Afterwards it is the start of the next portion: {1, 0, the last key shown}, or as it was where nothing was shown. The end and
+ * `least` are as of alarm_scan, the same in every portion of a listing. told: entries written, 1 if another was due, else 0, nodes opened, and 1
+ * if the listing has ended, else 0. It ends with the first portion whose `out` has room for an entry and that has no more due, be it full or
+ * empty. A portion without such room shows nothing, leaves `from` as it was, and ends no listing.
+ *
+ * The pool is only read, and keeps nothing of a listing: batches on either tree may come between portions. Each portion is right for the tree at
+ * its moment. Keys ascend over the whole listing, so none is shown twice. A key that is live, in range and of size `least` or more at every one
+ * of these moments is shown exactly once before the listing ends. A call after the end is a portion from there, with what was set behind the
+ * last key since.
+ *
+ * Each portion tests the whole pool first, as every call does: the larger the portion, the less an entry costs. Refused as 2, 19.
+ * alarm_portion_range, below, takes the end and `least` from a struct. */
+uint32_t alarm_portion(const uint8_t *pool, size_t pool_n, uint64_t tree, uint64_t from[3], bool end_bounded, bool end_included, uint64_t end,
+                       uint32_t least, uint8_t *out, size_t out_n, uint64_t told[4]);
+
 /* FRAMES: a node as one line of lower-case hexadecimal, without a line feed. The longest has 1794 digits. */
 
 /* Writes the i-th node of the tree's preorder walk, counted from 0. len: the line's length. Refused as 2, 19, 14, 16. */
@@ -193,13 +213,13 @@ static inline struct alarm_entry alarm_entry_at(const uint8_t *out, size_t i) {
 /* How far a range goes at one of its ends. */
 enum alarm_bound { ALARM_UNBOUNDED = 0, ALARM_INCLUDED = 1, ALARM_EXCLUDED = 2 };
 
-/* What a scan lists. All zeros: every live entry, upwards. */
+/* What a scan or a listing in portions lists. All zeros: every live entry, upwards. */
 struct alarm_range {
     enum alarm_bound from; /* unbounded: start is not read */
     uint64_t start;
     enum alarm_bound to; /* unbounded: end is not read */
     uint64_t end;
-    bool down;
+    bool down;      /* of a scan; portions go upwards */
     uint32_t least; /* the smallest size listed */
 };
 
@@ -208,6 +228,28 @@ static inline uint32_t alarm_scan_range(const uint8_t *pool, size_t pool_n, uint
                                         size_t out_n, uint64_t told[3]) {
     return alarm_scan(pool, pool_n, tree, range->from != ALARM_UNBOUNDED, range->from == ALARM_INCLUDED, range->start,
                       range->to != ALARM_UNBOUNDED, range->to == ALARM_INCLUDED, range->end, range->down, range->least, out, out_n, told);
+}
+
+/* Where the first portion of a range starts. */
+static inline void alarm_range_start(const struct alarm_range *range, uint64_t from[3]) {
+    from[ALARM_FROM_BOUNDED] = range->from != ALARM_UNBOUNDED;
+    from[ALARM_FROM_INCLUDED] = range->from == ALARM_INCLUDED;
+    from[ALARM_FROM_KEY] = range->start;
+}
+
+/* alarm_portion up to the end of a range. A whole listing, where `out` has room for an entry:
+ *
+ *     alarm_range_start(&range, from);
+ *     do {
+ *         if (alarm_portion_range(pool, pool_n, tree, from, &range, out, sizeof out, told) != ALARM_DONE)
+ *             return;
+ *         show(out, told[ALARM_WRITTEN]);
+ *     } while (!told[ALARM_ENDED]);
+ */
+static inline uint32_t alarm_portion_range(const uint8_t *pool, size_t pool_n, uint64_t tree, uint64_t from[3],
+                                           const struct alarm_range *range, uint8_t *out, size_t out_n, uint64_t told[4]) {
+    return alarm_portion(pool, pool_n, tree, from, range->to != ALARM_UNBOUNDED, range->to == ALARM_INCLUDED, range->end, range->least, out,
+                         out_n, told);
 }
 
 #ifdef __cplusplus

@@ -1,5 +1,5 @@
-/* Opens a pool, sets, compares, removes, gets, scans, frames and packs, in both trees, and prints what each call answered. What it must
- * print: alarm.stdout.
+/* Opens a pool, sets, compares, removes, gets, scans, lists in portions, frames and packs, in both trees, and prints what each call answered.
+ * What it must print: alarm.stdout.
  *
  *     cc -Iinclude link/alarm.c "$(link/archive)" -o target/alarm && target/alarm | diff - link/alarm.stdout
  */
@@ -146,9 +146,65 @@ static void clearing(void) {
     numbers("totals", alarm_totals(few, sizeof few, BY_TIME, totals), totals, 3);
 }
 
+/* the alarms of a night, which the handheld asks for ten at a time */
+static uint8_t night[ALARM_POOL_LEN(16, 16, 4)], screen[10 * ALARM_ENTRY_LEN];
+static const size_t night_n = sizeof night, ten = sizeof screen;
+
+static void portion(uint32_t code, const uint64_t told[4], const uint64_t from[3]) {
+    numbers("portion", code, told, 4);
+    printf("  shows");
+    for (size_t i = 0; i < told[ALARM_WRITTEN]; i++)
+        printf(" %" PRIu64, alarm_entry_at(screen, i).key);
+    printf("\n  next from %" PRIu64 " %" PRIu64 " %" PRIu64 "\n", from[ALARM_FROM_BOUNDED], from[ALARM_FROM_INCLUDED], from[ALARM_FROM_KEY]);
+}
+
+/* while the ten are read, three are struck out, of which two were shown, and three come in: one too late to be shown, one in time, and one above
+ * all */
+static void ten_and_ten_more(void) {
+    const struct alarm_range since_30 = {ALARM_INCLUDED, 30, ALARM_UNBOUNDED, 0, false, 0};
+    const uint64_t struck[3] = {110, 120, 130}, come[3] = {35, 125, 245}, pen = 9, newest = 250;
+    uint64_t counts[4], from[3], told[4];
+    alarm_open(night, night_n, 16, 16, 8, 4, 2);
+    for (uint64_t k = 10; k <= 240; k += 10)
+        alarm_set(night, night_n, BY_TIME, &k, 1, 256 + k, 16, counts);
+
+    alarm_range_start(&since_30, from);
+    portion(alarm_portion_range(night, night_n, BY_TIME, from, &since_30, screen, ten, told), told, from);
+    numbers("by time", alarm_remove(night, night_n, BY_TIME, struck, 3, counts), counts, 4);
+    numbers("by time", alarm_set(night, night_n, BY_TIME, come, 3, 300, 16, counts), counts, 4);
+    numbers("by pen", alarm_set(night, night_n, BY_PEN, &pen, 1, 300, 16, counts), counts, 4);
+    portion(alarm_portion_range(night, night_n, BY_TIME, from, &since_30, screen, ten, told), told, from);
+
+    /* refused, it leaves the screen too; without room it shows nothing, and stays where it was */
+    portion(alarm_portion_range(night, night_n, ALARM_TREES, from, &since_30, screen, ten, told), told, from);
+    portion(alarm_portion_range(night, night_n, BY_TIME, from, &since_30, NULL, 0, told), told, from);
+    portion(alarm_portion_range(night, night_n, BY_TIME, from, &since_30, screen, ten, told), told, from);
+
+    /* what comes after the end can still be asked for */
+    alarm_set(night, night_n, BY_TIME, &newest, 1, 300, 16, counts);
+    portion(alarm_portion_range(night, night_n, BY_TIME, from, &since_30, screen, ten, told), told, from);
+}
+
+/* twenty alarms are two portions: the second is full, and no more is due */
+static void twenty(void) {
+    const struct alarm_range before_240 = {ALARM_INCLUDED, 30, ALARM_EXCLUDED, 240, false, 0};
+    uint64_t from[3], told[4], past[3] = {7, 7, 251};
+    alarm_range_start(&before_240, from);
+    do {
+        portion(alarm_portion_range(night, night_n, BY_TIME, from, &before_240, screen, ten, told), told, from);
+    } while (!told[ALARM_ENDED]);
+
+    /* none is large enough, or none is behind the start: it stays as it was given, to its flags, and the listing ends, if there is room */
+    portion(alarm_portion(night, night_n, BY_TIME, from, false, false, 0, 17, screen, ten, told), told, from);
+    portion(alarm_portion(night, night_n, BY_TIME, past, false, false, 0, 0, screen, ten, told), told, past);
+    portion(alarm_portion(night, night_n, BY_TIME, past, false, false, 0, 0, NULL, 0, told), told, past);
+    night[0] = 1; /* the layout of a pool of one tree */
+    portion(alarm_portion(night, night_n, BY_TIME, past, false, false, 0, 0, screen, ten, told), told, past);
+}
+
 /* a slice of no elements may be NULL, in every call that takes one */
 static void without_elements(void) {
-    uint64_t counts[4], told[3], head[2], wide[32] = {0}, keys[32] = {0}, len = 0, totals[3] = {7, 7, 7};
+    uint64_t counts[4], from[3] = {0}, told[4], head[2], wide[32] = {0}, keys[32] = {0}, len = 0, totals[3] = {7, 7, 7};
     uint32_t narrow[32] = {0}, live[32] = {0}, dead[32] = {0};
     numbers("no set", alarm_set(pool, n, BY_TIME, NULL, 0, 1, 1, counts), counts, 4);
     numbers("no set_each", alarm_set_each(pool, n, BY_TIME, NULL, 0, NULL, 0, NULL, 0, counts), counts, 4);
@@ -157,6 +213,7 @@ static void without_elements(void) {
     numbers("no get", alarm_get(pool, n, BY_TIME, NULL, 0, NULL, 0, told), told, 2);
     const struct alarm_range all = {ALARM_UNBOUNDED, 0, ALARM_UNBOUNDED, 0, false, 0};
     numbers("no scan", alarm_scan_range(pool, n, BY_TIME, &all, NULL, 0, told), told, 3);
+    numbers("no portion", alarm_portion_range(pool, n, BY_TIME, from, &all, NULL, 0, told), told, 4);
     numbers("no frame", alarm_frame(pool, n, BY_TIME, 0, NULL, 0, &len), &len, 1);
     printf("no read_frame %" PRIu32 "\n", alarm_read_frame(NULL, 0, head, keys, wide, narrow, live, dead));
     numbers("no write_leaf", alarm_write_leaf(0, keys, wide, narrow, NULL, 0, &len), &len, 1);
@@ -232,6 +289,8 @@ int main(void) {
     numbers("totals", alarm_totals(pool, n, BY_TIME, totals), totals, 3);
     two_trees();
     clearing();
+    ten_and_ten_more();
+    twenty();
     packing();
     without_elements();
     return 0;

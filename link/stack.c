@@ -17,7 +17,7 @@
 enum { MOST = 1 << 14, STACK = 1 << 18, PAINT = 0xa5, NODES = 2048, TURNS = 200, GAP = 64, ROOM = 7 << 20 };
 
 static uint8_t pool[ROOM], target[ROOM], out[NODES * ALARM_ORDER_MOST * ALARM_ENTRY_LEN], line[ALARM_LINE_LEN];
-static uint64_t tree, order, minimum, pool_n, top, batch_n, len, counts[4], told[3], head[2];
+static uint64_t tree, order, minimum, pool_n, top, batch_n, len, counts[4], from[3], told[4], head[2];
 static uint64_t keys[32], places[32], batch[32];
 static uint32_t sizes[32], live[32], dead[32];
 
@@ -107,6 +107,10 @@ static uint32_t compare(void) { return alarm_compare(pool, pool_n, tree, batch, 
 static uint32_t get(void) { return alarm_get(pool, pool_n, tree, batch, batch_n, out, sizeof out, told); }
 static uint32_t scan(void) { return alarm_scan(pool, pool_n, tree, false, false, 0, false, false, 0, false, 0, out, sizeof out, told); }
 static uint32_t scan_down(void) { return alarm_scan(pool, pool_n, tree, false, false, 0, false, false, 0, true, 0, out, sizeof out, told); }
+static uint32_t portion(void) {
+    from[ALARM_FROM_BOUNDED] = 0; /* which the call before has changed */
+    return alarm_portion(pool, pool_n, tree, from, false, false, 0, 0, out, sizeof out, told);
+}
 /* the last node: of the slots in use one is the other tree's */
 static uint32_t frame(void) { return alarm_frame(pool, pool_n, tree, slots - ALARM_TREES, line, sizeof line, &len); }
 static uint32_t write_leaf(void) { return alarm_write_leaf(32, keys, places, sizes, line, sizeof line, &len); }
@@ -206,9 +210,9 @@ static size_t packings(void) {
     return most;
 }
 
-enum { CALLS = 15 };
+enum { CALLS = 16 };
 static const char *names[CALLS] = {"pool_len", "open", "totals", "pack", "set", "set_each", "compare", "remove",
-                                   "get", "scan", "scan, down", "frame", "write_leaf", "write_interior", "read_frame"};
+                                   "get", "scan", "scan, down", "portion", "frame", "write_leaf", "write_interior", "read_frame"};
 static size_t seen[3][CALLS];
 
 static void at_order(uint64_t n, size_t *most) {
@@ -225,6 +229,7 @@ static void at_order(uint64_t n, size_t *most) {
     *most++ = batches(get, 8);
     *most++ = looks(scan);
     *most++ = looks(scan_down);
+    *most++ = looks(portion);
     *most++ = looks(frame);
     for (uint64_t i = 0; i < 32; i++)
         keys[i] = i;

@@ -1,18 +1,9 @@
 //! The linked library, by the crate alarm-index: the C functions as C has them, so that it is seen whether a refusal leaves the small
 //! buffers as they were. Built where an archive is linked.
 #![cfg(linked)]
-use crate::library::{Comparison, Library, RawFrame};
+use crate::library::{range_end, Comparison, Library, RawFrame};
 use alarm_index::raw;
-use plain::Request;
-use std::ops::Bound;
-
-pub(crate) fn range_end(b: plain::Bound) -> Bound<u64> {
-    match b {
-        plain::Bound::Unbounded => Bound::Unbounded,
-        plain::Bound::Included(k) => Bound::Included(k),
-        plain::Bound::Excluded(k) => Bound::Excluded(k),
-    }
-}
+use plain::{Bound, Request};
 
 pub struct Archive;
 
@@ -48,6 +39,9 @@ impl Library for Archive {
     }
     fn scan(&self, pool: &[u8], tree: u64, q: &Request, out: &mut [u8], told: &mut [u64; 3]) -> u32 {
         raw::scan(pool, tree, range_end(q.start), range_end(q.end), q.down, q.least, out, told)
+    }
+    fn portion(&self, pool: &[u8], tree: u64, from: &mut [u64; 3], end: Bound, least: u32, out: &mut [u8], told: &mut [u64; 4]) -> u32 {
+        raw::portion(pool, tree, from, range_end(end), least, out, told)
     }
     fn frame(&self, pool: &[u8], tree: u64, i: u64, line: &mut [u8], len: &mut u64) -> u32 {
         raw::frame(pool, tree, i, line, len)

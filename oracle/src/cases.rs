@@ -2,7 +2,8 @@
 //! docs/DECISIONS.md: as lines that crates/trial_replay replays. What is wanted is written out here, and every answer is held to it as its line
 //! is made.
 use crate::lines::Lines;
-use crate::wanted::{deepest, down, entry, grove, p_of_before, set, two_groves, up, DESK};
+use crate::script::Cursor;
+use crate::wanted::{deepest, down, entry, grove, p_of_before, set, two_groves, up, DESK, FROM_3, WHOLE};
 use crate::{before, eight};
 use plain::Bound::{Excluded, Included, Unbounded};
 use plain::{Action, Call, Entry, Expectation, Limits, PoolSettings, Request, Settings};
@@ -10,7 +11,7 @@ use plain::{Action, Call, Entry, Expectation, Limits, PoolSettings, Request, Set
 pub const CASES: [fn(&mut Lines); 14] =
     [case_1, case_2, case_3, case_4, case_5, case_6, case_7, case_8, case_9, case_10, case_11, case_12, case_13, case_14];
 
-pub const READINGS: [fn(&mut Lines); 43] = [
+pub const READINGS: [fn(&mut Lines); 53] = [
     slots_of_p,
     compare_removes,
     dead_entry,
@@ -54,6 +55,16 @@ pub const READINGS: [fn(&mut Lines); 43] = [
     zero_words,
     eight_nodes,
     one_tree,
+    just_filled_ends,
+    room_left_ends,
+    no_room,
+    greatest_key,
+    below_and_above,
+    cursor_removed,
+    after_the_end,
+    beside_the_other,
+    range_and_sift,
+    portion_refused,
 ];
 
 pub fn write(lines: &mut Lines) {
@@ -520,8 +531,9 @@ fn dead_ones_packed(l: &mut Lines) {
     l.lists(up(Unbounded, Included(4)), 9, &[1, 3, 4], 3, false);
 }
 
-/// 28. A leaf of 100 dead beside 16 is no more opened for 50, where document 01's sum had it opened. One whose entries are all dead has sum 0: it is
-/// opened by SizeAtLeast 0, which is All.
+/// 28. A leaf of 100 dead beside 16 is no more opened for 50, where document 01's sum had it opened.
+///
+/// One whose entries are all dead has sum 0: it is opened by SizeAtLeast 0, which is All.
 fn dead_sizes_are_free(l: &mut Lines) {
     l.p();
     l.done(&Call::set(&[4], 0, 100), [0, 1, 0, 0]);
@@ -535,8 +547,9 @@ fn dead_sizes_are_free(l: &mut Lines) {
     l.lists(Request { least: 1, ..up(Unbounded, Unbounded) }, 9, &[1, 2, 3], 2, false);
 }
 
-/// 29. A pool whose sum counts a dead entry, as all did before, is refused as 2 by every call, and with the new sum it is none such. One in which the
-/// dead entry has size 0, and a lone leaf, which stores no sum, have the bytes that they had.
+/// 29. A pool whose sum counts a dead entry, as all did before, is refused as 2 by every call, and with the new sum it is none such.
+///
+/// One in which the dead entry has size 0, and a lone leaf, which stores no sum, have the bytes that they had.
 fn old_sums(l: &mut Lines) {
     l.p();
     l.done(&Call::set(&[4], 0, 100), [0, 1, 0, 0]);
@@ -810,4 +823,129 @@ fn one_tree(l: &mut Lines) {
     l.refused_by_all();
     l.put(0, 2);
     l.refused_by_all();
+}
+
+/// 44. P in portions of 2, 2 and 1: the last one is just filled, and ends.
+fn just_filled_ends(l: &mut Lines) {
+    l.p();
+    let mut c = WHOLE;
+    l.shows(&mut c, 2, &[1, 2], 2, false);
+    assert_eq!(c.from, [1, 0, 2]);
+    l.shows(&mut c, 2, &[3, 4], 3, false);
+    l.shows(&mut c, 1, &[5], 2, true);
+    assert_eq!(c.from, [1, 0, 5]);
+}
+
+/// 45. P in one portion of 5; and in portions of 2, the last of which has room left.
+fn room_left_ends(l: &mut Lines) {
+    l.p();
+    let (mut at_once, mut c) = (WHOLE, WHOLE);
+    l.shows(&mut at_once, 5, &[1, 2, 3, 4, 5], 3, true);
+    l.shows(&mut c, 2, &[1, 2], 2, false);
+    l.shows(&mut c, 2, &[3, 4], 3, false);
+    l.shows(&mut c, 2, &[5], 2, true);
+}
+
+/// 46. Without room for an entry nothing is shown, nothing ends, and the start stays as it is, also where its flags are neither 0 nor 1.
+///
+/// So it is of P, of which more is due, and of a range that holds nothing; with room for one entry this range ends at once.
+fn no_room(l: &mut Lines) {
+    l.p();
+    l.shows_nothing(&WHOLE, 0, 2, true);
+    for bytes in [0, 0, 23] {
+        l.shows_nothing(&FROM_3, bytes, 2, true);
+    }
+    let (mut some, mut nothing) = (FROM_3, Cursor { end: Excluded(3), ..FROM_3 });
+    for bytes in [0, 0, 23] {
+        l.shows_nothing(&nothing, bytes, 2, false);
+    }
+    l.shows(&mut nothing, 1, &[], 2, true);
+    assert_eq!(nothing.from, [7, 9, 3]);
+    l.shows(&mut some, 1, &[3], 3, false);
+}
+
+/// 47. The last key may be 2^64 - 1. The next portion starts behind it, and so shows nothing and ends.
+fn greatest_key(l: &mut Lines) {
+    l.new_pool(16);
+    l.done(&set(&[7, u64::MAX]), [2, 0, 0, 0]);
+    let mut c = WHOLE;
+    l.shows(&mut c, 1, &[7], 1, false);
+    l.shows(&mut c, 1, &[u64::MAX], 1, true);
+    assert_eq!(c.from, [1, 0, u64::MAX]);
+    l.shows(&mut c, 1, &[], 1, true);
+    assert_eq!(c.from, [1, 0, u64::MAX]);
+}
+
+/// 48. Keys set between two portions, one below the last key shown and one above it: the second is shown, the first is not.
+fn below_and_above(l: &mut Lines) {
+    l.p();
+    let mut c = WHOLE;
+    l.shows(&mut c, 2, &[1, 2], 2, false);
+    l.done(&set(&[0]), [1, 0, 0, 0]);
+    l.done(&set(&[6]), [1, 0, 0, 0]);
+    l.tree_is(&[2], &[&[0, 1, 2, 3], &[4, 5, 6]]);
+    l.shows(&mut c, 9, &[3, 4, 5, 6], 3, true);
+}
+
+/// 49. The last key shown is removed before the next portion: what is left is shown, and nothing twice. So it is where all of its leaf is removed.
+fn cursor_removed(l: &mut Lines) {
+    l.p();
+    let mut c = WHOLE;
+    l.shows(&mut c, 2, &[1, 2], 2, false);
+    l.done(&Call::remove(&[2]), [0, 0, 1, 0]);
+    l.shows(&mut c, 1, &[3], 3, false);
+    l.done(&Call::remove(&[1, 3]), [0, 0, 2, 0]);
+    l.tree_is(&[], &[&[4, 5]]);
+    l.shows(&mut c, 2, &[4, 5], 1, true);
+}
+
+/// 50. A call after the end is a portion from there: a key that was set above since then is shown, and else nothing.
+fn after_the_end(l: &mut Lines) {
+    l.p();
+    let mut c = WHOLE;
+    l.shows(&mut c, 5, &[1, 2, 3, 4, 5], 3, true);
+    l.shows(&mut c, 5, &[], 1, true);
+    l.done(&set(&[6]), [1, 0, 0, 0]);
+    l.shows(&mut c, 5, &[6], 2, true);
+    l.shows(&mut c, 5, &[], 1, true);
+}
+
+/// 51. Batches on the other tree, also such as set and remove keys that are still to be shown, change nothing; that tree has a listing of its own.
+fn beside_the_other(l: &mut Lines) {
+    l.p();
+    let (mut first, mut second) = (WHOLE, WHOLE);
+    l.shows(&mut first, 2, &[1, 2], 2, false);
+    l.on(1);
+    l.input();
+    l.done(&Call::remove(&[1, 3]), [0, 0, 2, 0]);
+    l.shows(&mut second, 1, &[2], 1, false);
+    l.on(0);
+    l.shows(&mut first, 2, &[3, 4], 3, false);
+    l.on(1);
+    l.shows(&mut second, 2, &[4, 5], 1, true);
+    l.on(0);
+    l.shows(&mut first, 2, &[5], 2, true);
+}
+
+/// 52. A range and a sift in portions of 1: behind 1, up to 4, and of at least 16, where 2 has size 5.
+fn range_and_sift(l: &mut Lines) {
+    l.p();
+    l.done(&Call::set(&[2], 258, 5), [0, 1, 0, 0]);
+    let mut c = Cursor { from: [1, 0, 1], end: Included(4), least: 16 };
+    l.shows(&mut c, 1, &[3], 3, false);
+    l.shows(&mut c, 1, &[4], 2, true);
+}
+
+/// 53. A portion is refused as 2, or else as 19, and by no other number; it leaves the words of its start, also their flags.
+fn portion_refused(l: &mut Lines) {
+    l.p();
+    for tree in [2, u64::MAX] {
+        l.on(tree);
+        l.does_not_show(&FROM_3, 19);
+    }
+    l.damage();
+    for tree in [0, 1, 2] {
+        l.on(tree);
+        l.does_not_show(&FROM_3, 2);
+    }
 }

@@ -1,6 +1,6 @@
 //! Pools damaged by hand: what a word is changed to, and the calls that must then answer 2, or answer for the pool that it has become.
 use crate::random::Random;
-use crate::script::{Script, Step};
+use crate::script::{Cursor, Script, Step};
 use crate::session::{Difference, Session};
 use crate::walk::some_tree;
 use crate::{before, eight, trees, Library};
@@ -35,7 +35,7 @@ fn values(r: &mut Random, pool: &[u8], w: u64) -> Vec<u64> {
 }
 
 /// One call of each kind in turn, on either tree or, now and then, on neither.
-const CALLS: usize = 13;
+const CALLS: usize = 14;
 fn call(r: &mut Random, turn: usize) -> Step {
     let tree = some_tree(r);
     call_on(r, tree, turn)
@@ -59,6 +59,7 @@ fn call_on(r: &mut Random, tree: u64, turn: usize) -> Step {
         9 => Step::batch(tree, Call::remove(&[k + 1, k])),
         10 => Step::batch(tree, Call::set_each(&[k], &[], &[1])),
         11 => Step::Get { tree, keys: vec![k + 1, k], room: 24 },
+        12 => Step::Portion { tree, cursor: Cursor { from: [7, 9, k], end: Bound::Unbounded, least: 0 }, room: 24 * r.below(30) },
         _ => Step::Frame { tree, i: u64::MAX, room: 0 },
     }
 }

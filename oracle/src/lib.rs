@@ -24,6 +24,7 @@ pub mod typed;
 pub mod variants;
 pub mod walk;
 pub mod wanted;
+pub mod watch;
 pub mod worn;
 
 pub use library::{library, Library};

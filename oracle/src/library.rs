@@ -38,12 +38,36 @@ impl std::fmt::Debug for RawFrame {
     }
 }
 
+/// A bound as the standard library has it.
+pub fn range_end(b: Bound) -> std::ops::Bound<u64> {
+    match b {
+        Bound::Unbounded => std::ops::Bound::Unbounded,
+        Bound::Included(k) => std::ops::Bound::Included(k),
+        Bound::Excluded(k) => std::ops::Bound::Excluded(k),
+    }
+}
+
 /// A bound as two flags and a key.
 pub fn bound(b: Bound) -> (bool, bool, u64) {
     match b {
         Bound::Unbounded => (false, false, 0),
         Bound::Included(k) => (true, true, k),
         Bound::Excluded(k) => (true, false, k),
+    }
+}
+
+/// A bound as the words of a start: bounded, included, key.
+pub fn words(b: Bound) -> [u64; 3] {
+    let (bounded, included, key) = bound(b);
+    [bounded.into(), included.into(), key]
+}
+
+/// The start that three words say: a flag is any number but 0, and the last two are not read where the first is 0.
+pub fn start([bounded, included, key]: [u64; 3]) -> Bound {
+    match (bounded, included) {
+        (0, _) => Bound::Unbounded,
+        (_, 0) => Bound::Excluded(key),
+        _ => Bound::Included(key),
     }
 }
 
@@ -90,6 +114,10 @@ pub trait Library {
     fn get(&self, pool: &[u8], tree: u64, keys: &[u64], out: &mut [u8], told: &mut [u64; 2]) -> u32;
     /// Told: entries written, 1 where more were due, nodes opened.
     fn scan(&self, pool: &[u8], tree: u64, request: &Request, out: &mut [u8], told: &mut [u64; 3]) -> u32;
+    /// From: the words of a start, and then those of the next one, or as they were where nothing was shown. Told: entries written, 1 where more
+    /// were due, nodes opened, 1 where the listing has ended.
+    #[allow(clippy::too_many_arguments)] // as the C function has them
+    fn portion(&self, pool: &[u8], tree: u64, from: &mut [u64; 3], end: Bound, least: u32, out: &mut [u8], told: &mut [u64; 4]) -> u32;
     fn frame(&self, pool: &[u8], tree: u64, i: u64, line: &mut [u8], len: &mut u64) -> u32;
     fn read_frame(&self, line: &[u8], frame: &mut RawFrame) -> u32;
     fn write_leaf(&self, count: u64, keys: &[u64; 32], places: &[u64; 32], sizes: &[u32; 32], line: &mut [u8], len: &mut u64) -> u32;

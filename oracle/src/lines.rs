@@ -1,8 +1,8 @@
 //! Calls with their answers, a line of numbers each, as crates/trial_replay replays them; the form stands at the head of bin/sample.rs. They are
 //! made on the pool at hand, one of two, which each opening makes anew, and no line is made of a call on which the third variant disagrees.
 use crate::frames;
-use crate::library::{bound, Library, RawFrame};
-use crate::script::Step;
+use crate::library::{bound, start, words, Library, RawFrame};
+use crate::script::{Cursor, Step};
 use crate::session::Session;
 use crate::tally::Tally;
 use plain::forest::Forest;
@@ -19,10 +19,12 @@ pub struct Lines<'l> {
     made: Vec<String>,
 }
 
-/// The answers of a line, and the bytes that the call wrote into its output.
+/// The answers of a line, and the bytes that the call wrote into its output; of a portion, the next start behind them.
 pub struct Told {
     pub answers: Vec<u64>,
     pub output: Vec<u8>,
+    /// The words of its start as a portion left them; of other calls none.
+    pub next: Option<[u64; 3]>,
 }
 
 impl<'l> Lines<'l> {
@@ -116,6 +118,7 @@ impl<'l> Lines<'l> {
             Step::Totals { tree } => self.totals(*tree),
             Step::Get { tree, keys, room } => self.get(*tree, keys, *room),
             Step::Scan { tree, request, room } => self.scan(*tree, request, *room),
+            Step::Portion { tree, cursor, room } => self.portion(*tree, cursor, *room),
             Step::Frame { tree, i, room } => self.frame(*tree, *i, *room),
             Step::Put { word, value } => self.told(11, &[*word as u64, *value], vec![0, check(self.pool())], vec![]),
             Step::Resize { .. } => unreachable!("a pool keeps its length up to the next opening"),
@@ -125,7 +128,7 @@ impl<'l> Lines<'l> {
 
     fn told(&mut self, kind: u64, arguments: &[u64], answers: Vec<u64>, output: Vec<u8>) -> Told {
         self.make(kind, arguments, &answers);
-        Told { answers, output }
+        Told { answers, output, next: None }
     }
     /// A call that lends no pool for change: behind its number, where it is done, what it told and the check of what it wrote.
     fn looked(&mut self, kind: u64, arguments: &[u64], number: u32, told: &[u64], output: Option<Vec<u8>>) -> Told {
@@ -164,6 +167,16 @@ impl<'l> Lines<'l> {
         let ((sb, si, s), (eb, ei, e)) = (bound(q.start), bound(q.end));
         let arguments = [tree, sb.into(), si.into(), s, eb.into(), ei.into(), e, q.down.into(), q.least.into(), room as u64];
         self.looked(8, &arguments, number, &told, Some(out))
+    }
+    /// In a line a start has flags of 0 and 1, and key 0 where it is not bounded. The check goes on over the words of the next one.
+    fn portion(&mut self, tree: u64, c: &Cursor, room: usize) -> Told {
+        let (mut out, mut told, mut from) = (vec![0; room], [0; 4], c.from);
+        let number = self.lib.portion(self.pool(), tree, &mut from, c.end, c.least, &mut out, &mut told);
+        let [given, next] = [c.from, from].map(|from| words(start(from)));
+        out.truncate(24 * told[0] as usize);
+        out.extend(next.into_iter().flat_map(u64::to_le_bytes));
+        let arguments = [&[tree][..], &given, &words(c.end), &[c.least.into(), room as u64]].concat();
+        Told { next: Some(from), ..self.looked(16, &arguments, number, &told, Some(out)) }
     }
     fn frame(&mut self, tree: u64, i: u64, room: usize) -> Told {
         let (mut line, mut len) = (vec![0; room], 0);

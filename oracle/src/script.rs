@@ -1,6 +1,22 @@
 //! A list of calls on one pool, as it is run, shrunk and printed.
+use crate::library::start;
 use plain::forest::Forest;
-use plain::{Call, PoolSettings, Request};
+use plain::{Bound, Call, PoolSettings, Request};
+
+/// What the caller keeps of a listing: the words of its next start, with any flags, its end, and its least size.
+#[derive(Clone, Copy, Debug, PartialEq)]
+pub struct Cursor {
+    pub from: [u64; 3],
+    pub end: Bound,
+    pub least: u32,
+}
+
+impl Cursor {
+    /// The scan of which a portion shows as much as has room.
+    pub fn request(&self) -> Request {
+        Request { start: start(self.from), end: self.end, down: false, least: self.least }
+    }
+}
 
 #[derive(Clone, Debug, PartialEq)]
 pub enum Step {
@@ -21,6 +37,11 @@ pub enum Step {
     Scan {
         tree: u64,
         request: Request,
+        room: usize,
+    },
+    Portion {
+        tree: u64,
+        cursor: Cursor,
         room: usize,
     },
     Frame {

@@ -1,18 +1,20 @@
 //! One pool under comparison: each step is done by the library on bytes, by the plain model, and by the three variants of the published module,
-//! which have a tree each for either of the pool's two, and no packing. Every answer, every lent buffer and every byte of the pool must agree;
-//! what must not change is looked at too, the other tree's answers after a batch among it.
-use crate::library::Library;
+//! which have a tree each for either of the pool's two, and no packing; a portion is a scan to them. Every answer, every lent buffer and every byte
+//! of the pool must agree; what must not change is looked at too, the other tree's answers after a batch among it.
+use crate::library::{words, Library};
 use crate::other::Answers;
 use crate::packed;
 use crate::published::Published;
-use crate::script::{Script, Step};
+use crate::script::{Cursor, Script, Step};
 use crate::stand_in::entry_bytes;
 use crate::tally::Tally;
+use crate::watch::Shown;
 use plain::forest::Forest;
 use plain::frame::{fitted, frames_of};
 use plain::look::{get_all, scan};
 use plain::pack::{self, pack};
 use plain::pool::{image, length, put};
+use plain::portion::portion;
 use plain::refuse::{batch_refusal, get_refusal, tree_refusal};
 use plain::sound::forest_of;
 use plain::tree::Node;
@@ -129,6 +131,7 @@ impl<'l> Session<'l> {
             Step::Totals { tree } => self.totals(*tree),
             Step::Get { tree, keys, room } => self.get(*tree, keys, *room),
             Step::Scan { tree, request, room } => self.scan(*tree, request, *room),
+            Step::Portion { tree, cursor, room } => self.portion(*tree, cursor, *room).map(drop),
             Step::Frame { tree, i, room } => self.frame(*tree, *i, *room),
             Step::Put { word, value } => {
                 put(&mut self.pool, *word, *value);
@@ -271,6 +274,35 @@ impl<'l> Session<'l> {
         }
         same("scan, written, more and opened", told, expected_told)?;
         same_bytes("scan, output", &out, &expected)
+    }
+
+    /// A portion; what the library left of it.
+    pub fn portion(&mut self, tree: u64, c: &Cursor, room: usize) -> Result<Shown, Difference> {
+        let before = self.pool.clone();
+        let (mut out, mut told, mut next) = (pattern(room), [UNTOLD; 4], c.from);
+        let got = self.lib.portion(&self.pool, tree, &mut next, c.end, c.least, &mut out, &mut told);
+        self.tally.answered("portion", got);
+        same_bytes("pool after a portion", &self.pool, &before)?;
+        let named = self.named(tree);
+        same("portion", got, named.as_ref().err().copied().unwrap_or(0))?;
+        let mut expected = pattern(room);
+        let (mut expected_told, mut expected_next) = ([UNTOLD; 4], c.from);
+        if let Ok((root, rust)) = named {
+            let q = c.request();
+            let p = portion(q.start, q.end, q.least, room / 24, root);
+            rust.scan(&q, room / 24, &p.scanned)?;
+            let listed = &p.scanned.listed;
+            let bytes = entry_bytes(&listed.written);
+            expected[..bytes.len()].copy_from_slice(&bytes);
+            expected_told = [listed.written.len() as u64, listed.more.into(), p.scanned.opened, p.ended.into()];
+            if !listed.written.is_empty() {
+                expected_next = words(p.next);
+            }
+        }
+        same("portion, written, more, opened and ended", told, expected_told)?;
+        same("portion, the words of the next start", next, expected_next)?;
+        same_bytes("portion, output", &out, &expected)?;
+        Ok(Shown { told, next, out })
     }
 
     fn frame(&mut self, tree: u64, i: u64, room: usize) -> Result<(), Difference> {

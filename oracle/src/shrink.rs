@@ -1,6 +1,6 @@
 //! A script that shows a difference, made smaller as long as it still shows one.
-use crate::library::Library;
-use crate::script::{Script, Step};
+use crate::library::{words, Library};
+use crate::script::{Cursor, Script, Step};
 use crate::session::{Difference, Session};
 use plain::Operation;
 
@@ -8,8 +8,8 @@ fn fails(lib: &dyn Library, s: &Script) -> Option<(usize, Difference)> {
     Session::run(lib, s).err()
 }
 
-/// The same step with one key less, or one step less for the target of a packing, in every way.
-fn fewer_keys(step: &Step) -> Vec<Step> {
+/// The same step with one key less, or one step less for the target of a packing, in every way; a portion with a start in plain words.
+fn smaller(step: &Step) -> Vec<Step> {
     match step {
         Step::Batch { tree, call } => (0..call.keys.len())
             .map(|i| {
@@ -36,6 +36,10 @@ fn fewer_keys(step: &Step) -> Vec<Step> {
                 Step::Pack { target, onward: *onward }
             })
             .collect(),
+        Step::Portion { tree, cursor, room } => {
+            let plain = Cursor { from: words(cursor.request().start), ..*cursor };
+            (plain != *cursor).then_some(Step::Portion { tree: *tree, cursor: plain, room: *room }).into_iter().collect()
+        }
         _ => vec![],
     }
 }
@@ -44,7 +48,7 @@ pub fn shrink(lib: &dyn Library, mut s: Script) -> (Script, Difference) {
     let (last, mut why) = fails(lib, &s).expect("a script that shows a difference");
     s.steps.truncate(last + 1);
     loop {
-        let mut smaller = false;
+        let mut changed = false;
         let mut part = (s.steps.len() / 2).max(1);
         while part > 0 && !s.steps.is_empty() {
             let mut at = 0;
@@ -54,7 +58,7 @@ pub fn shrink(lib: &dyn Library, mut s: Script) -> (Script, Difference) {
                 match fails(lib, &t) {
                     Some((last, d)) => {
                         t.steps.truncate(last + 1);
-                        (s, why, smaller) = (t, d, true);
+                        (s, why, changed) = (t, d, true);
                     }
                     None => at += part,
                 }
@@ -62,15 +66,15 @@ pub fn shrink(lib: &dyn Library, mut s: Script) -> (Script, Difference) {
             part /= 2;
         }
         for i in 0..s.steps.len() {
-            while let Some((t, d)) = fewer_keys(&s.steps[i]).into_iter().find_map(|step| {
+            while let Some((t, d)) = smaller(&s.steps[i]).into_iter().find_map(|step| {
                 let mut t = s.clone();
                 t.steps[i] = step;
                 fails(lib, &t).map(|(_, d)| (t, d))
             }) {
-                (s, why, smaller) = (t, d, true);
+                (s, why, changed) = (t, d, true);
             }
         }
-        if !smaller {
+        if !changed {
             return (s, why);
         }
     }

@@ -1,15 +1,16 @@
 //! The plain model over bytes, in the library's place: each call reads the pool from nothing and writes its image back.
-use crate::library::{Comparison, Library, RawFrame};
+use crate::library::{start, words, Comparison, Library, RawFrame};
 use plain::forest::Forest;
 use plain::frame::{write_frame, write_node, Branch, Frame};
 use plain::look::{get_all, scan};
 use plain::pack;
 use plain::pool::{image, length, length_or_none, settings};
+use plain::portion::portion;
 use plain::read_frame::read_line;
 use plain::refuse::{batch_refusal, get_refusal, tree_refusal};
 use plain::sound::forest_of;
 use plain::tree::Node;
-use plain::{Call, Entry, Request};
+use plain::{Bound, Call, Entry, Request};
 
 pub struct StandIn;
 
@@ -123,6 +124,17 @@ impl Library for StandIn {
     fn scan(&self, pool: &[u8], tree: u64, q: &Request, out: &mut [u8], told: &mut [u64; 3]) -> u32 {
         let answer = held(pool, tree).map(|root| scan(q, out.len() / 24, &root));
         tell(answer, told, |s| [put_entries(&s.listed.written, out), s.listed.more.into(), s.opened])
+    }
+    fn portion(&self, pool: &[u8], tree: u64, from: &mut [u64; 3], end: Bound, least: u32, out: &mut [u8], told: &mut [u64; 4]) -> u32 {
+        let answer = held(pool, tree).map(|root| portion(start(*from), end, least, out.len() / 24, &root));
+        tell(answer, told, |p| {
+            let listed = &p.scanned.listed;
+            // a start that stays keeps its words, whatever its flags are
+            if !listed.written.is_empty() {
+                *from = words(p.next);
+            }
+            [put_entries(&listed.written, out), listed.more.into(), p.scanned.opened, p.ended.into()]
+        })
     }
     fn frame(&self, pool: &[u8], tree: u64, i: u64, line: &mut [u8], len: &mut u64) -> u32 {
         put_line(held(pool, tree).and_then(|root| write_node(i, line.len(), &root)), line, len)

@@ -1,11 +1,12 @@
 //! The linked library by the typed calls of the crate alarm-index: what they tell is written down as the C functions would, where they were
 //! not refused. A number of no tree cannot be given to them; it goes to the C functions. Built where an archive is linked.
 #![cfg(linked)]
-use crate::alarm::{range_end, Archive};
-use crate::library::{Comparison, Library, RawFrame};
+use crate::alarm::Archive;
+use crate::library::{range_end, start, Comparison, Library, RawFrame};
 use alarm_index::{write_interior, write_leaf, Action, Branch, Counts, Direction, Entry, Expectation, Frame, Limits, Operation, Pool};
 use alarm_index::{Reference, Refusal, Settings, Sift, Tree, View};
 use plain::Request;
+use std::ops::Bound;
 
 pub struct Typed;
 
@@ -29,6 +30,23 @@ fn counted(answer: Result<Counts, Refusal>, counts: &mut [u64; 4]) -> u32 {
 
 fn given([nodes, order0, minimum0, order1, minimum1]: [u64; 5]) -> Settings {
     Settings { nodes, first: Limits { order: order0, minimum: minimum0 }, second: Limits { order: order1, minimum: minimum1 } }
+}
+
+fn sift(least: u32) -> Sift {
+    if least == 0 {
+        Sift::All
+    } else {
+        Sift::SizeAtLeast(least)
+    }
+}
+
+/// The words of a start.
+fn words(b: Bound<u64>) -> [u64; 3] {
+    match b {
+        Bound::Unbounded => [0, 0, 0],
+        Bound::Included(k) => [1, 1, k],
+        Bound::Excluded(k) => [1, 0, k],
+    }
 }
 
 fn fields(frame: &Frame) -> RawFrame {
@@ -94,9 +112,19 @@ impl Library for Typed {
     fn scan(&self, pool: &[u8], tree: u64, q: &Request, out: &mut [u8], told: &mut [u64; 3]) -> u32 {
         let Some(tree) = Tree::from_number(tree) else { return Archive.scan(pool, tree, q, out, told) };
         let direction = if q.down { Direction::Down } else { Direction::Up };
-        let sift = if q.least == 0 { Sift::All } else { Sift::SizeAtLeast(q.least) };
-        let answer = View::new(pool).scan(tree, (range_end(q.start), range_end(q.end)), direction, sift, out);
+        let answer = View::new(pool).scan(tree, (range_end(q.start), range_end(q.end)), direction, sift(q.least), out);
         tell(answer, told, |s| [s.entries.len() as u64, s.more.into(), s.opened])
+    }
+    fn portion(&self, pool: &[u8], tree: u64, from: &mut [u64; 3], end: plain::Bound, least: u32, out: &mut [u8], told: &mut [u64; 4]) -> u32 {
+        let Some(tree) = Tree::from_number(tree) else { return Archive.portion(pool, tree, from, end, least, out, told) };
+        let begin = range_end(start(*from));
+        tell(View::new(pool).portion(tree, begin, range_end(end), sift(least), out), told, |p| {
+            // a start that stays is told as a bound, by which the flags that were lent cannot be known
+            if p.next != begin {
+                *from = words(p.next);
+            }
+            [p.entries.len() as u64, p.more.into(), p.opened, p.ended.into()]
+        })
     }
     fn frame(&self, pool: &[u8], tree: u64, i: u64, line: &mut [u8], len: &mut u64) -> u32 {
         let Some(tree) = Tree::from_number(tree) else { return Archive.frame(pool, tree, i, line, len) };

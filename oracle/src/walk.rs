@@ -1,6 +1,6 @@
 //! Random calls, of every length around each boundary.
 use crate::random::Random;
-use crate::script::Step;
+use crate::script::{Cursor, Step};
 use plain::forest::Forest;
 use plain::frame::frames_of;
 use plain::tree::Node;
@@ -147,9 +147,29 @@ fn bound(r: &mut Random, root: Option<&Node>, source: &mut Keys) -> Bound {
     }
 }
 
+fn least(r: &mut Random) -> u32 {
+    r.pick(&[0, 0, 1, 16, 17, 1000, u32::MAX])
+}
+
+/// The words of a start. A flag that is set may be any number but 0, and what is not read may be anything.
+fn start_words(r: &mut Random, b: Bound) -> [u64; 3] {
+    let [one, other] = [0, 1].map(|_| r.pick(&[1, 1, 1, 2, 7, 9, 256, 1 << 32, u64::MAX]));
+    match b {
+        Bound::Unbounded => r.pick(&[[0, 0, 0], [0, one, other]]),
+        Bound::Included(k) => [one, other, k],
+        Bound::Excluded(k) => [one, 0, k],
+    }
+}
+
+pub fn cursor(r: &mut Random, root: Option<&Node>, source: &mut Keys) -> Cursor {
+    let (start, end) = (bound(r, root, source), bound(r, root, source));
+    Cursor { from: start_words(r, start), end, least: least(r) }
+}
+
 pub fn look(r: &mut Random, tree: u64, root: Option<&Node>, source: &mut Keys) -> Step {
     let held = root.map_or(0, |root| root.entries().len());
-    match r.below(10) {
+    let most = if r.one_in(3) { held } else { held.min(6) };
+    match r.below(12) {
         0 => Step::Totals { tree },
         1..=3 => {
             let n = r.pick(&[0, 1, 2, 5, 40]);
@@ -161,10 +181,10 @@ pub fn look(r: &mut Random, tree: u64, root: Option<&Node>, source: &mut Keys) -
         }
         4..=7 => {
             let (start, end) = (bound(r, root, source), bound(r, root, source));
-            let least = r.pick(&[0, 0, 1, 16, 17, 1000, u32::MAX]);
-            let most = if r.one_in(3) { held } else { held.min(6) };
-            Step::Scan { tree, request: Request { start, end, down: r.one_in(2), least }, room: room(r, most, 24) }
+            let request = Request { start, end, down: r.one_in(2), least: least(r) };
+            Step::Scan { tree, request, room: room(r, most, 24) }
         }
+        8..=9 => Step::Portion { tree, cursor: cursor(r, root, source), room: room(r, most, 24) },
         _ => frame(r, tree, root),
     }
 }

@@ -4,7 +4,7 @@
 //! after that input, in tree 0. What is done and asked names the tree at hand.
 use crate::before::{old_sums, written};
 use crate::lines::{Lines, Told};
-use crate::script::Step;
+use crate::script::{Cursor, Step};
 use crate::stand_in::entry_bytes;
 use plain::forest::Forest;
 use plain::frame::{write_frame, Frame};
@@ -17,7 +17,7 @@ use std::ops::RangeInclusive;
 pub const DESK: PoolSettings = PoolSettings::alike(16, 4, 2);
 
 pub fn entry(k: u64) -> Entry {
-    Entry { key: k, place: 256 + k, size: 16 }
+    Entry { key: k, place: k.wrapping_add(256), size: 16 }
 }
 fn entries(keys: &[u64]) -> Vec<Entry> {
     keys.iter().map(|&k| entry(k)).collect()
@@ -35,6 +35,10 @@ pub fn up(start: Bound, end: Bound) -> Request {
 pub fn down(start: Bound, end: Bound) -> Request {
     Request { down: true, ..up(start, end) }
 }
+
+/// Of a listing of the whole tree, and from a start with flags that are neither 0 nor 1.
+pub const WHOLE: Cursor = Cursor { from: [0; 3], end: Bound::Unbounded, least: 0 };
+pub const FROM_3: Cursor = Cursor { from: [7, 9, 3], ..WHOLE };
 
 /// Leaves in the slots from `from` on.
 fn leaves_from(from: usize, leaves: &[&[u64]]) -> Vec<Node> {
@@ -136,6 +140,32 @@ impl Lines<'_> {
         assert_eq!(t.output, entry_bytes(&entries(keys)));
     }
 
+    /// A portion with room for so many entries shows these keys, opens so many nodes, and ends the listing or says that more are due. The next one
+    /// starts behind the last key, or, where none was shown, with the words that it had.
+    #[track_caller]
+    pub fn shows(&mut self, c: &mut Cursor, room: usize, keys: &[u64], opened: u64, ended: bool) {
+        let t = self.play(&Step::Portion { tree: self.tree(), cursor: *c, room: 24 * room });
+        begins_with(&t, &[0, keys.len() as u64, (!ended).into(), opened, ended.into()]);
+        assert_eq!(t.output[..24 * keys.len()], entry_bytes(&entries(keys)));
+        c.from = keys.last().map_or(c.from, |last| [1, 0, *last]);
+        assert_eq!(t.next, Some(c.from));
+    }
+    /// One with so few bytes of room that no entry fits shows nothing and does not end, whether more are due or not.
+    #[track_caller]
+    pub fn shows_nothing(&mut self, c: &Cursor, bytes: usize, opened: u64, more: bool) {
+        let t = self.play(&Step::Portion { tree: self.tree(), cursor: *c, room: bytes });
+        begins_with(&t, &[0, 0, more.into(), opened, 0]);
+        assert_eq!(t.next, Some(c.from));
+    }
+    /// One that is refused leaves the words of its start.
+    #[track_caller]
+    pub fn does_not_show(&mut self, c: &Cursor, number: u64) {
+        for room in [0, 24] {
+            let t = self.play(&Step::Portion { tree: self.tree(), cursor: *c, room });
+            assert_eq!((t.answers, t.next), (vec![number], Some(c.from)));
+        }
+    }
+
     /// The pool at hand is packed into the other one, and is as it was.
     #[track_caller]
     pub fn packs(&mut self) {
@@ -187,6 +217,7 @@ impl Lines<'_> {
         ] {
             assert_eq!(self.play(&step).answers, [number]);
         }
+        self.does_not_show(&FROM_3, number);
     }
     /// Every call on the pool at hand is refused as 2, whichever tree it names.
     #[track_caller]

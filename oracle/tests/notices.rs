@@ -1,33 +1,37 @@
 //! The comparison notices a library that is wrong in one thing.
 use oracle::before::old_sums;
-use oracle::library::{Comparison, Library, RawFrame};
+use oracle::library::{words, Comparison, Library, RawFrame};
 use oracle::packed::{entries, is_packed};
 use oracle::parts::Work;
-use oracle::script::Step;
+use oracle::script::{Cursor, Step};
 use oracle::shrink::shrink;
 use oracle::stand_in::StandIn;
+use oracle::watch::{Shown, Watch};
 use oracle::{eight, trees};
 use plain::forest::Forest;
+use plain::list::plain_batch;
 use plain::pack::{self, is_new, needed, packed, seat};
 use plain::pool::{image, length, put, settings, slot_at, word, HEADER};
 use plain::refuse::{batch_refusal, descend, refusal};
 use plain::sound::{forest_of, read};
 use plain::tree::{Items, Node};
-use plain::{Call, Counts, Entry, Limits, PoolSettings, Request};
+use plain::{Bound, Call, Counts, Entry, Limits, PoolSettings, Request};
 use std::time::{Duration, Instant};
 
-/// Each fault is named once, so each is tried; those of packing and of soundness show in the part of packing, or of damage.
+/// Each fault is named once, so each is tried; those of listing, of packing and of soundness show in the part of portions, of packing, or of damage.
 macro_rules! faults {
-    ($($other:ident)*, of packing: $($of_packing:ident)*, of soundness: $($of_soundness:ident)*) => {
+    ($($other:ident)*, of listing: $($of_listing:ident)*, of packing: $($of_packing:ident)*, of soundness: $($of_soundness:ident)*) => {
         #[derive(Clone, Copy, Debug, PartialEq)]
         enum Fault {
             None,
             $($other,)*
+            $($of_listing,)*
             $($of_packing,)*
             $($of_soundness,)*
         }
         use Fault::*;
         const OTHERS: &[Fault] = &[$($other),*];
+        const OF_LISTING: &[Fault] = &[$($of_listing),*];
         const OF_PACKING: &[Fault] = &[$($of_packing),*];
         const OF_SOUNDNESS: &[Fault] = &[$($of_soundness),*];
     };
@@ -66,7 +70,22 @@ faults! {
     ScansTheOtherTree
     GetsFromTheOtherTree
     FramesTheOtherTree
-    TouchesTheOtherTree,
+    TouchesTheOtherTree
+    PortionTestsNineteenFirst
+    WritesTheStartWhenRefused
+    TellsAPortionWhenRefused,
+    of listing:
+    EndsWithRoomLeftAlone
+    EndsWithoutRoom
+    EndsWhereMoreIsDue
+    StartsAtTheLastKey
+    StartsBehindTheFirstKey
+    StartsWhereItDid
+    StartsAtTheNextNumber
+    StartsBehindTheNextNumber
+    WritesAStartThatStays
+    OpensForTheWholeScan
+    ShowsTheOtherTree,
     of packing:
     LeavesOfOrderLessOne
     ShortLeafFirst
@@ -180,6 +199,27 @@ impl Wrong {
             es.iter_mut().for_each(|e| e.place = e.place.max(1));
         }
         counts
+    }
+
+    /// What a portion that is done leaves in the small buffers, with this fault.
+    fn shown(&self, pool: &[u8], tree: u64, c: &Cursor, from: &mut [u64; 3], out: &[u8], told: &mut [u64; 4]) {
+        let written = told[0] as usize;
+        match self.0 {
+            EndsWithRoomLeftAlone => told[3] = (written < out.len() / 24).into(),
+            EndsWithoutRoom => told[3] = 1 - told[1],
+            EndsWhereMoreIsDue => told[3] = told[1],
+            OpensForTheWholeScan => {
+                let (_, f) = forest_of(pool).expect("sound");
+                told[2] = plain::look::scan(&c.request(), usize::MAX, &f.roots[tree as usize]).opened;
+            }
+            WritesAStartThatStays if written == 0 => *from = words(c.request().start),
+            StartsAtTheLastKey if written > 0 => from[1] = 1,
+            StartsBehindTheFirstKey if written > 0 => from[2] = word(out, 0),
+            StartsWhereItDid => *from = c.from,
+            StartsAtTheNextNumber if written > 0 => *from = [1, 1, from[2].wrapping_add(1)],
+            StartsBehindTheNextNumber if written > 0 => from[2] = from[2].wrapping_add(1),
+            _ => {}
+        }
     }
 
     /// The refusal of a packing, with this fault.
@@ -397,6 +437,21 @@ impl Library for Wrong {
         }
         number
     }
+    fn portion(&self, pool: &[u8], tree: u64, from: &mut [u64; 3], end: Bound, least: u32, out: &mut [u8], told: &mut [u64; 4]) -> u32 {
+        if self.is(PortionTestsNineteenFirst) && tree > 1 {
+            return 19;
+        }
+        let tree = if self.is(ShowsTheOtherTree) && tree < 2 { 1 - tree } else { self.tree(tree) };
+        let c = Cursor { from: *from, end, least };
+        let number = StandIn.portion(pool, tree, from, end, least, out, told);
+        match (self.0, number) {
+            (_, 0) => self.shown(pool, tree, &c, from, out, told),
+            (WritesTheStartWhenRefused, _) => *from = [0; 3],
+            (TellsAPortionWhenRefused, _) => *told = [0; 4],
+            _ => {}
+        }
+        number
+    }
     fn frame(&self, pool: &[u8], tree: u64, i: u64, line: &mut [u8], len: &mut u64) -> u32 {
         let tree = if self.is(FramesTheOtherTree) && tree < 2 { 1 - tree } else { self.tree(tree) };
         let number = StandIn.frame(pool, tree, i, line, len);
@@ -446,7 +501,9 @@ impl Library for Wrong {
 
 /// How the name of the part begins that shows a fault; of all parts where it may be any.
 fn part_of(f: Fault) -> &'static str {
-    if OF_PACKING.contains(&f) {
+    if OF_LISTING.contains(&f) {
+        "portions"
+    } else if OF_PACKING.contains(&f) {
         "packing"
     } else if OF_SOUNDNESS.contains(&f) {
         "damaged"
@@ -475,7 +532,7 @@ fn noticed(f: Fault) -> Option<String> {
 
 #[test]
 fn each_fault_is_noticed() {
-    for &f in OTHERS.iter().chain(OF_PACKING).chain(OF_SOUNDNESS) {
+    for &f in OTHERS.iter().chain(OF_LISTING).chain(OF_PACKING).chain(OF_SOUNDNESS) {
         let found = noticed(f);
         println!("{f:?}: {}", found.as_deref().unwrap_or("NOT NOTICED"));
         assert!(found.is_some(), "{f:?} is not noticed");
@@ -501,4 +558,45 @@ fn bytes_tell_what_is_packed() {
     for f in [LeavesOfOrderLessOne, ShortLeafFirst, NumbersLevelByLevel, PacksTheSecondTreeFirst] {
         assert!(seen(f).is_err(), "{f:?} is not seen");
     }
+}
+
+/// A listing of the keys 1 to 9, and what is seen of it without a session: now and then a portion without room, else portions of three, and behind
+/// each of these the given keys removed.
+fn watched(f: Fault, from: [u64; 3], gone: &[u64]) -> Result<(), String> {
+    let lib = Wrong(f);
+    let ps = PoolSettings::alike(16, 4, 2);
+    let mut list: Vec<Entry> = (1..=9).map(|key| Entry { key, place: key, size: 1 }).collect();
+    let mut pool = image(&ps, &trees::planted([packed(4, &list), trees::empty()], ps.nodes, Option::None));
+    let mut c = Cursor { from, end: Bound::Unbounded, least: 0 };
+    let mut watch = Watch::new(&c);
+    for size in [0, 3, 0, 3, 3, 3, 3] {
+        let (mut out, mut told, mut next) = (vec![0; 24 * size], [0; 4], c.from);
+        assert_eq!(lib.portion(&pool, 0, &mut next, c.end, c.least, &mut out, &mut told), 0);
+        if watch.see(&list, size, c.from, &Shown { told, next, out })? {
+            return Ok(());
+        }
+        c.from = next;
+        for call in gone.chunks(4).map(Call::remove).filter(|_| size > 0) {
+            assert_eq!(lib.batch(&mut pool, 0, &call, &mut [0; 4]), 0);
+            plain_batch(&call, &mut list);
+        }
+    }
+    unreachable!("nine keys are shown by then")
+}
+
+/// What is asked of a listing is seen from what was shown and from the plain list, without the plain rules of a portion.
+#[test]
+fn a_listing_tells_what_it_shows() {
+    let still = |f| watched(f, [7, 9, 1], &[]);
+    // the last key shown goes, and two that are still to come
+    let changed = |f| watched(f, [0; 3], &[3, 5, 9]);
+    let emptied = |f| watched(f, [0; 3], &[4, 5, 6, 7, 8, 9]);
+    assert_eq!((still(None), changed(None), emptied(None)), (Ok(()), Ok(()), Ok(())));
+    let faults = [EndsWithRoomLeftAlone, EndsWhereMoreIsDue, StartsAtTheLastKey, StartsBehindTheFirstKey, StartsWhereItDid, WritesAStartThatStays];
+    for f in faults {
+        assert!(still(f).is_err(), "{f:?} is not seen");
+    }
+    assert!(emptied(EndsWithoutRoom).is_err());
+    assert_eq!(still(StartsBehindTheNextNumber), Err("portions that joined are not the whole scan, but [1, 2, 3, 5, 6, 7, 9]".to_string()));
+    assert_eq!(changed(StartsBehindTheNextNumber), Err("4 was due at every moment, and not shown".to_string()));
 }

@@ -5,17 +5,16 @@ use mathlib.Core.Bool.{Bool, true, false, cond}
 use mathlib.Core.List.{List, [], _∷_}
 use Prim.Native.Nat.{ℕ, zero, suc, _<_}
 use lib.Dec.{eqb}
-use borrow.Author.Tests.{lt-ltb}
 use Rattle.model.specs.declared.PoolSettings.{PoolSettings}
 use Rattle.model.specs.declared.Counts.{Counts}
 use Rattle.model.specs.declared.Entry.{Entry}
 use Rattle.model.specs.Lists.{All, none, one}
 use Rattle.model.specs.Tree.{entriesOf}
 use Rattle.model.specs.Plain.{plainCounts, noCounts}
-use Rattle.model.specs.Answer.{Answer, refused, done, unless}
+use Rattle.model.specs.Answer.{refused, done, unless}
 use Rattle.model.specs.Look.{Listing, getAll, scan}
 use Rattle.model.specs.Refuse.{Call, tasksOf, descend, get}
-use Rattle.model.specs.Forest.{Forest, treeOf, replant, newForest, SoundForest, named, refusalAt, batchAt, forestAfter}
+use Rattle.model.specs.Forest.{Forest, treeOf, replant, newForest, SoundForest, refusalAt, batchAt, forestAfter}
 use Rattle.model.specs.Demands as D
 use Rattle.model.specs.TwoTrees.{doneAt, BatchesAt, BothAccepted, ChangePlacesAt}
 use Rattle.model.proofs.Answers.{refused-done}
@@ -28,19 +27,13 @@ use Rattle.look_output.specs.Output.{roomIn}
 use Rattle.index_promise.specs.declared.OpenAnswer.the-variants as Open
 use Rattle.index_promise.specs.declared.BatchAnswer.{BatchAnswer}
 use Rattle.index_promise.specs.declared.BatchAnswer.the-variants as Batch
-use Rattle.index_promise.specs.Promise.{holds, fails, Left, _leaving_, leaves, Opens, Batches, batched, written, listed}
+use Rattle.index_promise.specs.Promise.{holds, fails, Left, _leaving_, leaves, Opens, Batches, batched, written, listed, shown}
 use Rattle.index_promise.proofs.Unique.{by-sound}
-use Rattle.index.specs.Register.{AnswersFrom, sweptOf, Turn, Runs, rest, next, plainAfter, plainTurn, plainRun, CountedBy, Counted, Onwards, Demand3, Swapped, Swap, SwapTrees}
+use Rattle.index_promise.proofs.Dones.{done-is, named-is}
+use Rattle.look_portion.specs.Portion.{upwards, portion}
+use Rattle.index.specs.Register.{AnswersFrom, sweptOf, portionOf, Turn, Runs, rest, next, plainAfter, plainTurn, plainRun, CountedBy, Counted, Onwards, Demand3, Swapped, Swap, SwapTrees}
 
 -- WHAT A PROMISE SAYS OF A SOUND POOL
-
--- two answers that are done and the same say the same
-pub done-is : {A : Type 0} {a b : A} → done a ≡ done b → a ≡ b
-done-is e = cc
-
--- a tree whose number is 0 or 1 is not refused as 19
-pub named-is : {A : Type 0} (i : ℕ) (a : Answer A) → i < 2 → named i a ≡ a
-named-is i a low = rw (lt-ltb i 2 low) refl
 
 pub answers-from : (i : ℕ) (es : List Entry) (l : List ℕ) → i < 2 → SoundPool l → entriesOf (indexOf l i) ≡ es → AnswersFrom i es l
 answers-from i es l low s e =
@@ -58,6 +51,11 @@ answers-from i es l low s e =
           let n = scan q (roomIn out) (indexOf l i) .opened in
           let e = by-sound s p ∙ ap (leaves (λ s. sweptOf (s .listed) (s .opened)) (λ s. written out (s .listed)) out) (named-is i (done (scan q (roomIn out) (indexOf l i))) low)
           ∙ ap (λ (g : Listing). done (sweptOf g n) leaving written out g) (m .scans q (roomIn out)) in
+          ((n, ap (λ w. w .answer) e), ap (λ w. w .bytes) e);
+      portions = λ start end sift out r out′ p.
+          let n = scan (upwards start end sift) (roomIn out) (indexOf l i) .opened in
+          let e = by-sound s p ∙ ap (leaves shown (λ x. written out (x .scanned .listed)) out) (named-is i (done (portion start end sift (roomIn out) (indexOf l i))) low)
+          ∙ ap (λ (g : Listing). done (portionOf start (roomIn out) g n) leaving written out g) (m .scans (upwards start end sift) (roomIn out)) in
           ((n, ap (λ w. w .answer) e), ap (λ w. w .bytes) e);
     }
   where

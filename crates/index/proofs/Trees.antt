@@ -13,6 +13,7 @@ use Rattle.words.specs.Words.{words}
 use Rattle.model.specs.declared.PoolSettings.{PoolSettings}
 use Rattle.model.specs.declared.Counts.{Counts}
 use Rattle.look_output.specs.Output.{roomIn}
+use Rattle.look_portion.specs.Portion.{portion}
 use Rattle.model.specs.Answer.{Answer, refused, done}
 use Rattle.model.specs.Lists.{times}
 use Rattle.model.specs.Tree.{Index, slotsOf, totalsOf}
@@ -29,8 +30,8 @@ use Rattle.tree.specs.Bridge.{unusedOf}
 use Rattle.tree.specs.Pool.{SoundPool, givenIn, nodesIn, indexOf, forestOf}
 use Rattle.tree.proofs.Pools.{sees-unused, tree-of}
 use Rattle.index_promise.specs.declared.BatchAnswer.the-variants as Batch
-use Rattle.index_promise.specs.Promise.{holds, Left, _leaving_, leaves, batched, listed, written, swept}
-use Rattle.index_promise.proofs.Unique.{by-sound, by-unsound, one-totals, one-get, one-scan, one-frame}
+use Rattle.index_promise.specs.Promise.{holds, Left, _leaving_, leaves, batched, listed, written, swept, shown}
+use Rattle.index_promise.proofs.Unique.{by-sound, by-unsound, one-totals, one-get, one-scan, one-portion, one-frame}
 use Rattle.index.specs.Trees.{ReadsSame, SameBut7, Untouched, Independent, OneSupply, FreedServesEither, NumbersRefused, RefusedAs2, OldRefused, SharedRefused}
 use Rattle.index.proofs.Register.{accepted, refused-same, leftBy, After, after}
 
@@ -44,6 +45,7 @@ refused-as-2 l u =
         batches = λ c r l′ p. by-unsound u p;
         gets = λ ks out r out′ p. by-unsound u p;
         scans = λ q out r out′ p. by-unsound u p;
+        portions = λ start end sift out r out′ p. by-unsound u p;
         frames = λ n line r line′ p. by-unsound u p;
       };
       source = λ m r m′ p. by-unsound (λ s. u (s .0)) p;
@@ -86,6 +88,7 @@ numbers-refused i l s high =
       batches = λ c r l′ p. by-sound s p ∙ ap (leftBy i c l) (nineteen c);
       gets = λ ks out r out′ p. by-sound s p ∙ ap (leaves listed (written out) out) (unnamed i high _);
       scans = λ q out r out′ p. by-sound s p ∙ ap (leaves swept (λ s. written out (s .listed)) out) (unnamed i high _);
+      portions = λ start end sift out r out′ p. by-sound s p ∙ ap (leaves shown (λ x. written out (x .scanned .listed)) out) (unnamed i high _);
       frames = λ n line r line′ p. by-sound s p ∙ ap (leaves length (λ s. s ++ drop (length s) line) line) (unnamed i high _);
     }
   where
@@ -149,6 +152,9 @@ module _ (i : ℕ) (l l′ : List ℕ) (s : SoundPool l) (s′ : SoundPool l′)
         scans = λ k out r r′ o o′ p q. one-scan l j k out o′ o r′ r
             (holds s (by-sound s′ q
             ∙ ap (λ (t : Planted). leaves swept (λ s. written out (s .listed)) out (named j (done (scan k (roomIn out) (indexWith t []))))) e)) p;
+        portions = λ start end sift out r r′ o o′ p q. one-portion l j start end sift out o′ o r′ r
+            (holds s (by-sound s′ q
+            ∙ ap (λ (t : Planted). leaves shown (λ x. written out (x .scanned .listed)) out (named j (done (portion start end sift (roomIn out) (indexWith t []))))) e)) p;
         frames = λ n line r r′ o o′ p q. one-frame l j n line o′ o r′ r
             (holds s (by-sound s′ q
             ∙ ap (λ (t : Planted). leaves length (λ s. s ++ drop (length s) line) line (named j (writeNode n (length line) (indexWith t [])))) e)) p;

@@ -13,6 +13,8 @@ use Rattle.model.specs.Lists.{All}
 use Rattle.model.specs.Tree.{entriesOf, adds, sumOf}
 use Rattle.model.specs.Plain.{plainList, plainCounts, noCounts}
 use Rattle.model.specs.Answer.{Answer, refused, done}
+use Rattle.model.specs.declared.Bound.{Bound}
+use Rattle.model.specs.declared.Sift.{Sift}
 use Rattle.model.specs.declared.Request.{Request}
 use Rattle.model.specs.Look.{Listing, listing, found, dueIn}
 use Rattle.model.specs.Refuse.{Call, tasksOf, descend}
@@ -26,7 +28,10 @@ use Rattle.look_output.specs.declared.Scanned.{Scanned}
 use Rattle.look_output.specs.Output.{roomIn}
 use Rattle.index_promise.specs.declared.GetAnswer.{GetAnswer}
 use Rattle.index_promise.specs.declared.ScanAnswer.{ScanAnswer}
-use Rattle.index_promise.specs.Promise.{Opens, Totalling, totalled, Batches, batched, Gets, got, Scans, scanned, listed, written}
+use Rattle.look_portion.specs.declared.Portion.{Portion}
+use Rattle.look_portion.specs.Portion.{upwards, nextStart, endsListing}
+use Rattle.index_promise.specs.declared.PortionAnswer.{PortionAnswer}
+use Rattle.index_promise.specs.Promise.{Opens, Totalling, totalled, Batches, batched, Gets, got, Scans, scanned, Portions, portioned, listed, written}
 
 -- A TREE OF A POOL THAT ANSWERS FROM A PLAIN LIST
 
@@ -34,7 +39,12 @@ use Rattle.index_promise.specs.Promise.{Opens, Totalling, totalled, Batches, ba
 abbrev pub sweptOf : Listing → ℕ → Scanned
 sweptOf g n = record { written = length (g .written); more = g .more; opened = n }
 
--- tree i of the pool l holds exactly the entries es, dead ones too, and every lookup, scan list and totals call that names it answers from them
+-- and a portion's, from a start, with room for so many
+abbrev pub portionOf : Bound → ℕ → Listing → ℕ → Portion
+portionOf start size g n = record { scanned = sweptOf g n; next = nextStart start (g .written); ended = endsListing size (g .more) }
+
+-- tree i of the pool l holds exactly the entries es, dead ones too, and every lookup, scan list, portion and totals call that names it answers from
+-- them
 pub record AnswersFrom (i : ℕ) (es : List Entry) (l : List ℕ) : Type 0 where
   pub sound : SoundPool l
   pub holds : entriesOf (indexOf l i) ≡ es
@@ -43,6 +53,9 @@ pub record AnswersFrom (i : ℕ) (es : List Entry) (l : List ℕ) : Type 0 where
       → (got r ≡ done (listed (listing (roomIn out) (found ks es)))) × (out′ ≡ written out (listing (roomIn out) (found ks es)))
   pub scans : (q : Request) (out : List ℕ) (r : ScanAnswer) (out′ : List ℕ) → Scans l i q out r out′
       → ((opened : ℕ) × (scanned r ≡ done (sweptOf (listing (roomIn out) (dueIn q es)) opened))) × (out′ ≡ written out (listing (roomIn out) (dueIn q es)))
+  pub portions : (start end : Bound) (sift : Sift) (out : List ℕ) (r : PortionAnswer) (out′ : List ℕ) → Portions l i start end sift out r out′
+      → let g = listing (roomIn out) (dueIn (upwards start end sift) es) in
+      ((opened : ℕ) × (portioned r ≡ done (portionOf start (roomIn out) g opened))) × (out′ ≡ written out g)
 
 -- ANY SEQUENCE OF BATCHES
 
@@ -97,7 +110,7 @@ pub record Swapped (first second first′ second′ : Counts) (l k : List ℕ) :
   -- each has the same counts, first or second
   pub one : first ≡ first′
   pub other : second ≡ second′
-  -- and every get, scan list and totals call of either tree straight after the pair the same answer
+  -- and every get, scan list, portion and totals call of either tree straight after the pair the same answer
   pub entries : ℕ → List Entry
   pub this : (i : ℕ) → i < 2 → AnswersFrom i (entries i) l
   pub that : (i : ℕ) → i < 2 → AnswersFrom i (entries i) k

@@ -5,6 +5,8 @@ use mathlib.Core.Logic.{_≢_}
 use mathlib.Core.List.{List}
 use Rattle.words.specs.Words.{words}
 use Rattle.model.specs.declared.Counts.{Counts}
+use Rattle.model.specs.declared.Bound.{Bound}
+use Rattle.model.specs.declared.Sift.{Sift}
 use Rattle.model.specs.declared.Request.{Request}
 use Rattle.model.specs.Lists.{times}
 use Rattle.model.specs.Tree.{slotsOf}
@@ -21,16 +23,19 @@ use Rattle.index_promise.specs.declared.BatchAnswer.{BatchAnswer}
 use Rattle.index_promise.specs.declared.BatchAnswer.the-variants as Batch
 use Rattle.index_promise.specs.declared.GetAnswer.{GetAnswer}
 use Rattle.index_promise.specs.declared.ScanAnswer.{ScanAnswer}
+use Rattle.index_promise.specs.declared.PortionAnswer.{PortionAnswer}
 use Rattle.index_promise.specs.declared.PackAnswer.{PackAnswer}
-use Rattle.index_promise.specs.Promise.{_leaving_, Totalling, totalled, Batches, batched, Gets, got, Scans, scanned, Frames, Packs, packing}
+use Rattle.index_promise.specs.Promise.{_leaving_, Totalling, totalled, Batches, batched, Gets, got, Scans, scanned, Portions, portioned, Frames, Packs, packing}
 
 -- A BATCH ON ONE TREE changes no entry, total or node of the other
 
--- every totals, get and scan call and every frame of tree j answers of l′ what it answers of l, and leaves the same bytes
+-- every totals, get and scan call, every portion and every frame of tree j answers of l′ what it answers of l, and leaves the same bytes
 pub record ReadsSame (j : ℕ) (l l′ : List ℕ) : Type 0 where
   pub totals : (r r′ : TotalsAnswer) → Totalling l j r → Totalling l′ j r′ → r′ ≡ r
   pub gets : (ks out : List ℕ) (r r′ : GetAnswer) (o o′ : List ℕ) → Gets l j ks out r o → Gets l′ j ks out r′ o′ → (r′ ≡ r) × (o′ ≡ o)
   pub scans : (q : Request) (out : List ℕ) (r r′ : ScanAnswer) (o o′ : List ℕ) → Scans l j q out r o → Scans l′ j q out r′ o′ → (r′ ≡ r) × (o′ ≡ o)
+  pub portions : (start end : Bound) (sift : Sift) (out : List ℕ) (r r′ : PortionAnswer) (o o′ : List ℕ) → Portions l j start end sift out r o
+      → Portions l′ j start end sift out r′ o′ → (r′ ≡ r) × (o′ ≡ o)
   pub frames : (n : ℕ) (line : List ℕ) (r r′ : WriteAnswer) (o o′ : List ℕ) → Frames l j n line r o → Frames l′ j n line r′ o′ → (r′ ≡ r) × (o′ ≡ o)
 
 -- what it may change for the other is refusal 7 alone: a batch on tree j that is refused on l for another reason is refused so on l′
@@ -67,6 +72,8 @@ pub record RefusedAs (k i : ℕ) (l : List ℕ) : Type 0 where
   pub batches : (c : Call) (r : BatchAnswer) (l′ : List ℕ) → Batches i c l r l′ → (batched r leaving l′) ≡ (refused k leaving l)
   pub gets : (ks out : List ℕ) (r : GetAnswer) (out′ : List ℕ) → Gets l i ks out r out′ → (got r leaving out′) ≡ (refused k leaving out)
   pub scans : (q : Request) (out : List ℕ) (r : ScanAnswer) (out′ : List ℕ) → Scans l i q out r out′ → (scanned r leaving out′) ≡ (refused k leaving out)
+  pub portions : (start end : Bound) (sift : Sift) (out : List ℕ) (r : PortionAnswer) (out′ : List ℕ) → Portions l i start end sift out r out′
+      → (portioned r leaving out′) ≡ (refused k leaving out)
   pub frames : (n : ℕ) (line : List ℕ) (r : WriteAnswer) (line′ : List ℕ) → Frames l i n line r line′ → (lengthTold r leaving line′) ≡ (refused k leaving line)
 
 -- ANOTHER NUMBER THAN 0 AND 1 is refused as 19, straight after 2, whatever else is wrong with the call

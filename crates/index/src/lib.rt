@@ -1,6 +1,7 @@
 // THE PUBLIC CALLS of the index. Each takes any input, and answers: with what it has done, or with the number of a refusal, and then every
 // byte that was lent is as it was. A call on one tree names it by its number straight after the pool. What each answers stands in crate
-// index_promise (specs/Promise). The calls that read stand in crate index_look, the one that packs in crate index_pack.
+// index_promise (specs/Promise). The calls that read stand in crates index_look and index_portion, the one that packs in crate
+// index_pack.
 ghost use Rattle.model.specs.Refuse.{call};
 ghost use Rattle.index_promise.specs.Promise.{Opens, Batches};
 pub use frame_read::read as read_frame;
@@ -13,6 +14,7 @@ pub use index_look::scan;
 pub use index_look::totals;
 use index_named::find;
 pub use index_pack::pack;
+pub use index_portion::portion;
 use index_promise::BatchAnswer;
 use index_promise::OpenAnswer;
 use model::Operation;

@@ -5,20 +5,23 @@ use mathlib.Core.List.{List}
 use lib.ListN.{length}
 use Rattle.model.specs.declared.PoolSettings.{PoolSettings}
 use Rattle.model.specs.Answer.{Answer}
+use Rattle.model.specs.declared.Bound.{Bound}
+use Rattle.model.specs.declared.Sift.{Sift}
 use Rattle.model.specs.declared.Request.{Request}
 use Rattle.model.specs.Refuse.{Call}
 use Rattle.model.specs.Frame.{Frame, writeFrame}
 use Rattle.model.specs.Sound.{PoolLimits}
 use Rattle.tree.specs.Pool.{poolLen}
 use Rattle.frame.proofs.Undoes.{one-written}
-use Rattle.index_promise.specs.Promise.{Where, opening, totalled, batched, got, scanned, packing}
+use Rattle.index_promise.specs.Promise.{Where, opening, totalled, batched, got, scanned, portioned, packing}
 use Rattle.frame_text.specs.Answers.{lengthTold}
 use Rattle.index_promise.specs.declared.OpenAnswer.{OpenAnswer}
 use Rattle.index_promise.specs.declared.PackAnswer.{PackAnswer}
-use Rattle.index_promise.proofs.Unique.{where-unique, one-opening, one-totals, one-batch, one-get, one-scan, one-frame, one-pack}
-use Rattle.index_c_told.specs.Told.{codeOf, totalNumbers, countNumbers, listedNumbers, scannedNumbers}
+use Rattle.index_promise.proofs.Unique.{where-unique, one-opening, one-totals, one-batch, one-get, one-scan, one-portion, one-frame, one-pack}
+use Rattle.index_c_told.specs.Told.{codeOf, totalNumbers, countNumbers, listedNumbers, scannedNumbers, PortionBuffers, buffersAfter}
+use Rattle.index_c_given.specs.Given.{startFor}
 use Rattle.index_c_fields.specs.Fields.{Fields, frameFields}
-use Rattle.index_c.specs.Calls.{Kept, OpenCall, PackCall, TotalsCall, BatchCall, GetCall, ScanCall, FrameCall, WriteCall, ReadCall}
+use Rattle.index_c.specs.Calls.{Kept, OpenCall, PackCall, TotalsCall, BatchCall, GetCall, ScanCall, PortionCall, FrameCall, WriteCall, ReadCall}
 use Rattle.index_c_told.proofs.Reported.{one-report}
 
 pub one-pool-len : (given : PoolSettings) (r q : ℕ) → Where (PoolLimits given) (poolLen given) 0 r → Where (PoolLimits given) (poolLen given) 0 q → r ≡ q
@@ -54,6 +57,11 @@ one-get-call l i ks out k m b b′ b″ r q = one-kept got listedNumbers b b′ 
 pub one-scan-call : (l : List ℕ) (i : ℕ) (p : Request) (out k m b b′ b″ : List ℕ) (r q : ℕ) → ScanCall l i p out b r k b′ → ScanCall l i p out b q m b″
     → ((r ≡ q) × (b′ ≡ b″)) × (k ≡ m)
 one-scan-call l i p out k m b b′ b″ r q = one-kept scanned scannedNumbers b b′ b″ r q (one-scan l i p out k m)
+
+pub one-portion-call : (l : List ℕ) (i : ℕ) (end : Bound) (sift : Sift) (out k m : List ℕ) (b b′ b″ : PortionBuffers) (r q : ℕ)
+    → PortionCall l i end sift out b r k b′ → PortionCall l i end sift out b q m b″ → ((r ≡ q) × (b′ ≡ b″)) × (k ≡ m)
+one-portion-call l i end sift out k m b b′ b″ r q =
+    one-kept portioned (buffersAfter (b .from)) b b′ b″ r q (one-portion l i (startFor (b .from)) end sift out k m)
 
 pub one-frame-call : (l : List ℕ) (i n : ℕ) (line k m : List ℕ) (b b′ b″ r q : ℕ) → FrameCall l i n line b r k b′ → FrameCall l i n line b q m b″
     → ((r ≡ q) × (b′ ≡ b″)) × (k ≡ m)

@@ -5,6 +5,8 @@ use mathlib.Core.List.{List}
 use lib.ListN.{length}
 use Rattle.model.specs.declared.PoolSettings.{PoolSettings}
 use Rattle.model.specs.Answer.{Answer}
+use Rattle.model.specs.declared.Bound.{Bound}
+use Rattle.model.specs.declared.Sift.{Sift}
 use Rattle.model.specs.declared.Request.{Request}
 use Rattle.model.specs.Refuse.{Call}
 use Rattle.model.specs.Frame.{Frame, writeFrame}
@@ -12,8 +14,9 @@ use Rattle.frame_text.specs.declared.WriteAnswer.{WriteAnswer}
 use Rattle.frame_text.specs.Answers.{lengthTold, Writes}
 use Rattle.index_promise.specs.declared.OpenAnswer.{OpenAnswer}
 use Rattle.index_promise.specs.declared.PackAnswer.{PackAnswer}
-use Rattle.index_promise.specs.Promise.{Opens, opening, Totalling, totalled, Batches, batched, Gets, got, Scans, scanned, Frames, Packs, packing}
-use Rattle.index_c_told.specs.Told.{codeOf, Reports, totalNumbers, countNumbers, listedNumbers, scannedNumbers}
+use Rattle.index_promise.specs.Promise.{Opens, opening, Totalling, totalled, Batches, batched, Gets, got, Scans, scanned, Portions, portioned, Frames, Packs, packing}
+use Rattle.index_c_told.specs.Told.{codeOf, Reports, totalNumbers, countNumbers, listedNumbers, scannedNumbers, PortionBuffers, buffersAfter}
+use Rattle.index_c_given.specs.Given.{startFor}
 use Rattle.index_c_fields.specs.Fields.{Fields, frameFields}
 
 -- a promise of an answer is kept by one that is reported, whose values are put by f into a small buffer that was b
@@ -41,6 +44,10 @@ GetCall l i ks out b r out′ b′ = Kept (λ a. Gets l i ks out a out′) got l
 
 abbrev pub ScanCall : List ℕ → ℕ → Request → List ℕ → List ℕ → ℕ → List ℕ → List ℕ → Type 0
 ScanCall l i q out b r out′ b′ = Kept (λ a. Scans l i q out a out′) scanned scannedNumbers b r b′
+
+-- there are two small buffers; the numbers of `from` say where the portion starts
+abbrev pub PortionCall : List ℕ → ℕ → Bound → Sift → List ℕ → PortionBuffers → ℕ → List ℕ → PortionBuffers → Type 0
+PortionCall l i end sift out b r out′ b′ = Kept (λ a. Portions l i (startFor (b .from)) end sift out a out′) portioned (buffersAfter (b .from)) b r b′
 
 -- the small buffer is one number, the line's length
 abbrev pub FrameCall : List ℕ → ℕ → ℕ → List ℕ → ℕ → ℕ → List ℕ → ℕ → Type 0

@@ -1,2 +1,3 @@
--- `Calls` says what each call promises.
+-- `Calls` says what each call promises, `InTurn` that calls of a listing one after the other are a listing.
 pub mod Calls
+pub mod InTurn

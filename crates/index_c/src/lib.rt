@@ -11,7 +11,7 @@ ghost use Rattle.tree.specs.Pool.{poolLen};
 ghost use Rattle.frame_text.specs.Contents.{frameOf};
 ghost use Rattle.index_promise.specs.Promise.{Where};
 ghost use Rattle.index_c_given.specs.Given.{settingsFor, expectationFor, actionFor, callFor, callEach, boundFor, directionFor, siftFor, leafContents, interiorContents};
-ghost use Rattle.index_c.specs.Calls.{OpenCall, PackCall, TotalsCall, BatchCall, GetCall, ScanCall, FrameCall, WriteCall, ReadCall};
+ghost use Rattle.index_c.specs.Calls.{OpenCall, PackCall, TotalsCall, BatchCall, GetCall, ScanCall, PortionCall, FrameCall, WriteCall, ReadCall};
 use index_c_fields::tell_reading;
 use index_c_given::action;
 use index_c_given::bound;
@@ -20,11 +20,13 @@ use index_c_given::expectation;
 use index_c_given::interior;
 use index_c_given::leaf;
 use index_c_given::settings;
+use index_c_given::start_of;
 use index_c_told::tell_counts;
 use index_c_told::tell_get;
 use index_c_told::tell_length;
 use index_c_told::tell_open;
 use index_c_told::tell_pack;
+use index_c_told::tell_portion;
 use index_c_told::tell_scan;
 use index_c_told::tell_totals;
 use model::Operation;
@@ -224,6 +226,32 @@ pub extern "C" fn alarm_scan(
     let named = tree as usize;
     let answer = index::scan(pool, named, low, high, way, Sift::SizeAtLeast(least), out);
     tell_scan(answer, told)
+}
+
+// Lists a portion of the live entries of size `least` or more, up to an end. `from`: its start as three numbers, bounded, included and key;
+// afterwards the start of the next portion. Told: entries written, 1 where more were due, nodes opened, and 1 where the listing has ended.
+#[no_mangle]
+pub extern "C" fn alarm_portion(
+    pool: &[u8],
+    tree: u64,
+    from: &mut [u64; 3],
+    end_bounded: bool,
+    end_included: bool,
+    end: u64,
+    least: u32,
+    out: &mut [u8],
+    told: &mut [u64; 4],
+) -> u32
+    ensures { λ r.
+        ⌜ PortionCall (now (pool .entry)) tree (boundFor «end_bounded» «end_included» end) (siftFor least) (now (out .entry))
+        (record { from = now (from .entry); told = now (told .entry) }) r (now (out .exit))
+        (record { from = now (from .exit); told = now (told .exit) }) ⌝ }
+{
+    let low = start_of(from);
+    let high = bound(end_bounded, end_included, end);
+    let named = tree as usize;
+    let answer = index::portion(pool, named, low, high, Sift::SizeAtLeast(least), out);
+    tell_portion(answer, from, told)
 }
 
 // Writes the i-th frame of a tree. `len`: the line's length.

@@ -1,8 +1,9 @@
 -- What a caller's numbers, flags and arrays stand for. Assumes nothing.
 use Prim.Native.Nat.{ℕ}
-use mathlib.Core.Bool.{Bool, cond}
+use mathlib.Core.Bool.{Bool, cond, not}
 use mathlib.Core.List.{List, []}
 use lib.ListN.{getD}
+use lib.Dec.{eqb}
 use Rattle.model.specs.declared.PoolSettings.{PoolSettings}
 use Rattle.model.specs.declared.Operation.{Operation}
 use Rattle.model.specs.declared.Operation.the-variants.{SetEach}
@@ -44,10 +45,14 @@ callFor op keys = record { operation = op; places = []; sizes = []; keys = keys 
 abbrev pub callEach : List ℕ → List ℕ → List ℕ → Call
 callEach keys ps sizes = record { operation = SetEach; places = ps; sizes = sizes; keys = keys }
 
--- SCANS
+-- SCANS AND PORTIONS
 
 abbrev pub boundFor : Bool → Bool → ℕ → Bound
 boundFor bounded included key = cond bounded (cond included (Included key) (Excluded key)) Unbounded
+
+-- the start of a portion by its three numbers: bounded and included are flags that are not 0
+abbrev pub startFor : List ℕ → Bound
+startFor from = boundFor (not (eqb (getD from 0 0) 0)) (not (eqb (getD from 1 0) 0)) (getD from 2 0)
 
 abbrev pub directionFor : Bool → Direction
 directionFor down = cond down Down Up

@@ -1,6 +1,6 @@
 // What a caller's numbers and flags stand for.
 ghost use mathlib.Core.Path.{_≡_};
-ghost use Rattle.index_c_given.specs.Given.{settingsFor, boundFor, directionFor, expectationFor, actionFor, leafContents, interiorContents};
+ghost use Rattle.index_c_given.specs.Given.{settingsFor, boundFor, startFor, directionFor, expectationFor, actionFor, leafContents, interiorContents};
 ghost use Rattle.frame_text.specs.Contents.{ofBranch};
 use frame_text::Contents;
 use frame_text::FrameEntry;
@@ -43,6 +43,13 @@ pub fn bound(bounded: bool, included: bool, key: u64) -> Bound
         return Bound::Included(key);
     }
     Bound::Excluded(key)
+}
+
+// The start of a portion: bounded, included, key.
+pub fn start_of(from: &[u64; 3]) -> Bound
+    ensures { λ r. ⌜ r ≡ startFor (now (from .entry)) ⌝ }
+{
+    bound(from[0] != 0, from[1] != 0, from[2])
 }
 
 pub fn direction(down: bool) -> Direction

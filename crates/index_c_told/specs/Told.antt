@@ -3,11 +3,15 @@ use Prim.Native.Nat.{ℕ}
 use mathlib.Core.Path.{_≡_}
 use mathlib.Core.Bool.{Bool, cond}
 use mathlib.Core.List.{List, [], _∷_}
+use lib.Dec.{eqb}
 use Rattle.model.specs.declared.Totals.{Totals}
 use Rattle.model.specs.declared.Counts.{Counts}
+use Rattle.model.specs.declared.Bound.{Bound}
+use Rattle.model.specs.declared.Bound.the-variants.{Unbounded, Included, Excluded}
 use Rattle.model.specs.Answer.{Answer, refused, done}
 use Rattle.look_output.specs.declared.Listed.{Listed}
 use Rattle.look_output.specs.declared.Scanned.{Scanned}
+use Rattle.look_portion.specs.declared.Portion.{Portion}
 
 -- 0 where the call was done, and the table's number where it was refused
 abbrev pub codeOf : {A : Type 0} → Answer A → ℕ
@@ -44,3 +48,25 @@ listedNumbers g = g .written ∷ flag (g .more) ∷ []
 -- entries written, more, nodes opened
 abbrev pub scannedNumbers : Scanned → List ℕ
 scannedNumbers s = s .written ∷ flag (s .more) ∷ s .opened ∷ []
+
+-- entries written, more, nodes opened, ended
+abbrev pub portionNumbers : Portion → List ℕ
+portionNumbers p = p .scanned .written ∷ flag (p .scanned .more) ∷ p .scanned .opened ∷ flag (p .ended) ∷ []
+
+-- bounded, included, key
+abbrev pub boundNumbers : Bound → List ℕ
+boundNumbers Unbounded = 0 ∷ 0 ∷ 0 ∷ []
+boundNumbers (Included k) = 1 ∷ 1 ∷ k ∷ []
+boundNumbers (Excluded k) = 1 ∷ 0 ∷ k ∷ []
+
+-- the numbers of a start after a portion: those of the next start, or where nothing was shown as they were given
+abbrev pub startAfter : Portion → List ℕ → List ℕ
+startAfter p from = cond (eqb (p .scanned .written) 0) from (boundNumbers (p .next))
+
+-- a portion has two small buffers: the numbers of its start, and then of the next one, and what it tells
+pub record PortionBuffers : Type 0 where
+  pub from : List ℕ
+  pub told : List ℕ
+
+abbrev pub buffersAfter : List ℕ → Portion → PortionBuffers
+buffersAfter from p = record { from = startAfter p from; told = portionNumbers p }

@@ -1,15 +1,18 @@
 // An answer as C has it: 0 or a number as the result, and what was done in small lent buffers, which a refusal leaves as they were.
 ghost use mathlib.Core.Path.{_≡_};
-ghost use Rattle.index_promise.specs.Promise.{opening, totalled, batched, got, scanned, packing};
+ghost use Rattle.index_promise.specs.Promise.{opening, totalled, batched, got, scanned, portioned, packing};
 ghost use Rattle.frame_text.specs.Answers.{lengthTold};
-ghost use Rattle.index_c_told.specs.Told.{codeOf, Reports, totalNumbers, countNumbers, listedNumbers, scannedNumbers};
+ghost use Rattle.index_c_told.specs.Told.{codeOf, Reports, totalNumbers, countNumbers, listedNumbers, scannedNumbers, boundNumbers, startAfter, buffersAfter};
 use frame_text::WriteAnswer;
 use index_promise::BatchAnswer;
 use index_promise::GetAnswer;
 use index_promise::OpenAnswer;
 use index_promise::PackAnswer;
+use index_promise::PortionAnswer;
 use index_promise::ScanAnswer;
 use index_promise::TotalsAnswer;
+use look_portion::Portion;
+use model::Bound;
 
 pub fn tell_open(answer: OpenAnswer) -> u32
     ensures { λ r. ⌜ r ≡ codeOf (opening answer) ⌝ }
@@ -79,6 +82,49 @@ pub fn tell_scan(answer: ScanAnswer, told: &mut [u64; 3]) -> u32
             0
         }
         ScanAnswer::Refused(n) => n,
+    }
+}
+
+pub fn tell_portion(answer: PortionAnswer, from: &mut [u64; 3], told: &mut [u64; 4]) -> u32
+    ensures { λ r.
+        ⌜ Reports (buffersAfter (now (from .entry))) (portioned answer) (record { from = now (from .entry); told = now (told .entry) }) r
+        (record { from = now (from .exit); told = now (told .exit) }) ⌝ }
+{
+    match answer {
+        PortionAnswer::Done(p) => {
+            tell_start(p, from);
+            let s = p.scanned;
+            *told = [
+                s.written as u64,
+                s.more as u64,
+                s.opened as u64,
+                p.ended as u64,
+            ];
+            0
+        }
+        PortionAnswer::Refused(n) => n,
+    }
+}
+
+// The numbers of the next start. Where nothing was shown those of this one stay as the caller gave them.
+fn tell_start(p: Portion, from: &mut [u64; 3])
+    ensures { λ _. ⌜ now (from .exit) ≡ startAfter p (now (from .entry)) ⌝ }
+{
+    let s = p.scanned;
+    if s.written != 0 {
+        let next = p.next;
+        *from = bound_numbers(next);
+    }
+}
+
+// A bound as three numbers: bounded, included, key.
+fn bound_numbers(b: Bound) -> [u64; 3]
+    ensures { λ r. ⌜ r ≡ boundNumbers b ⌝ }
+{
+    match b {
+        Bound::Unbounded => [0, 0, 0],
+        Bound::Included(key) => [1, 1, key],
+        Bound::Excluded(key) => [1, 0, key],
     }
 }
 

@@ -1,4 +1,4 @@
-// The calls that leave the pool as it is. Each finds the tree that it names, or refuses, and then looks.
+// Calls that leave the pool as it is: totals, get, scan, frame. Each finds the tree that it names, or refuses, and then looks.
 ghost use Rattle.model.specs.Look.{requestFor};
 ghost use Rattle.index_promise.specs.Promise.{Totalling, Gets, Scans, Frames};
 use frame_text::WriteAnswer;

@@ -1,2 +1,3 @@
--- `Unique`: a promise leaves one answer.
+-- `Unique`: a promise leaves one answer. `Dones`: what is known of a reading call that was done.
 pub mod Unique
+pub mod Dones

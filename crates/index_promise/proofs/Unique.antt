@@ -4,6 +4,8 @@ use mathlib.Core.List.{List}
 use Prim.Native.Nat.{ℕ}
 use Rattle.model.specs.declared.PoolSettings.{PoolSettings}
 use Rattle.model.specs.Answer.{Answer, refused, done}
+use Rattle.model.specs.declared.Bound.{Bound}
+use Rattle.model.specs.declared.Sift.{Sift}
 use Rattle.model.specs.declared.Request.{Request}
 use Rattle.model.specs.Refuse.{Call}
 use Rattle.frame_text.specs.declared.WriteAnswer.{WriteAnswer}
@@ -19,10 +21,12 @@ use Rattle.index_promise.specs.declared.GetAnswer.{GetAnswer}
 use Rattle.index_promise.specs.declared.GetAnswer.the-variants as Get
 use Rattle.index_promise.specs.declared.ScanAnswer.{ScanAnswer}
 use Rattle.index_promise.specs.declared.ScanAnswer.the-variants as Scan
+use Rattle.index_promise.specs.declared.PortionAnswer.{PortionAnswer}
+use Rattle.index_promise.specs.declared.PortionAnswer.the-variants as Portioned
 use Rattle.index_promise.specs.declared.PackAnswer.{PackAnswer}
 use Rattle.index_promise.specs.declared.PackAnswer.the-variants as Pack
-use Rattle.index_promise.specs.Promise.{Where, holds, fails, Left, _leaving_, Opens, Totalling, Batches, Gets, Scans, Frames, Packs}
-use Rattle.index_promise.specs.Promise.{opening, totalled, batched, got, scanned, packing}
+use Rattle.index_promise.specs.Promise.{Where, holds, fails, Left, _leaving_, Opens, Totalling, Batches, Gets, Scans, Portions, Frames, Packs}
+use Rattle.index_promise.specs.Promise.{opening, totalled, batched, got, scanned, portioned, packing}
 
 pub where-unique : {P : Type 0} {A : Type 0} {a b r s : A} → Where P a b r → Where P a b s → r ≡ s
 where-unique (holds p e) (holds q f) = e ∙ sym f
@@ -41,7 +45,7 @@ by-unsound u (holds q e) = absurd (u q)
 by-unsound u (fails q e) = e
 
 -- what a call leaves is known by its parts
-parts : {A : Type 0} {a b : Answer A} {l m : List ℕ} → (a leaving l) ≡ (b leaving m) → (a ≡ b) × (l ≡ m)
+pub parts : {A : Type 0} {a b : Answer A} {l m : List ℕ} → (a leaving l) ≡ (b leaving m) → (a ≡ b) × (l ≡ m)
 parts {A = A} e = (ap (λ (w : Left A). w .answer) e, ap (λ (w : Left A). w .bytes) e)
 
 -- an answer is known by what it means, where it is made of that again
@@ -77,6 +81,10 @@ scan-again : (r : ScanAnswer) → again Scan.Done Scan.Refused (scanned r) ≡ r
 scan-again (Scan.Done a) = refl
 scan-again (Scan.Refused n) = refl
 
+portion-again : (r : PortionAnswer) → again Portioned.Done Portioned.Refused (portioned r) ≡ r
+portion-again (Portioned.Done a) = refl
+portion-again (Portioned.Refused n) = refl
+
 length-again : (r : WriteAnswer) → again Write.Done Write.Refused (lengthTold r) ≡ r
 length-again (Write.Done n) = refl
 length-again (Write.Refused n) = refl
@@ -101,6 +109,10 @@ one-get l i ks out k m = one-left Get.Done Get.Refused got get-again
 
 pub one-scan : (l : List ℕ) (i : ℕ) (p : Request) (out k m : List ℕ) (r q : ScanAnswer) → Scans l i p out r k → Scans l i p out q m → (r ≡ q) × (k ≡ m)
 one-scan l i p out k m = one-left Scan.Done Scan.Refused scanned scan-again
+
+pub one-portion : (l : List ℕ) (i : ℕ) (start end : Bound) (sift : Sift) (out k m : List ℕ) (r q : PortionAnswer)
+    → Portions l i start end sift out r k → Portions l i start end sift out q m → (r ≡ q) × (k ≡ m)
+one-portion l i start end sift out k m = one-left Portioned.Done Portioned.Refused portioned portion-again
 
 pub one-frame : (l : List ℕ) (i n : ℕ) (line k m : List ℕ) (r q : WriteAnswer) → Frames l i n line r k → Frames l i n line q m → (r ≡ q) × (k ≡ m)
 one-frame l i n line k m = one-left Write.Done Write.Refused lengthTold length-again

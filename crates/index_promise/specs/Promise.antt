@@ -8,6 +8,8 @@ use Rattle.model.specs.declared.Totals.{Totals}
 use Rattle.model.specs.declared.Counts.{Counts}
 use Rattle.model.specs.Tree.{totalsOf}
 use Rattle.model.specs.Answer.{Answer, refused, done}
+use Rattle.model.specs.declared.Bound.{Bound}
+use Rattle.model.specs.declared.Sift.{Sift}
 use Rattle.model.specs.declared.Request.{Request}
 use Rattle.model.specs.Look.{Listing, Scanned, scan}
 use Rattle.model.specs.Refuse.{Call, get}
@@ -29,6 +31,10 @@ use Rattle.look_output.specs.declared.Scanned as Told
 use Rattle.look_output.specs.Output.{roomIn, outputOf}
 use Rattle.index_promise.specs.declared.ScanAnswer.{ScanAnswer}
 use Rattle.index_promise.specs.declared.ScanAnswer.the-variants as Scan
+use Rattle.look_portion.specs.declared.Portion.{Portion}
+use Rattle.look_portion.specs.Portion.{Shown, portion}
+use Rattle.index_promise.specs.declared.PortionAnswer.{PortionAnswer}
+use Rattle.index_promise.specs.declared.PortionAnswer.the-variants as Portioned
 use Rattle.index_promise.specs.declared.PackAnswer.{PackAnswer}
 use Rattle.index_promise.specs.declared.PackAnswer.the-variants as Pack
 use Rattle.frame_text.specs.declared.WriteAnswer.{WriteAnswer}
@@ -116,6 +122,21 @@ abbrev pub Scans : List ℕ → ℕ → Request → List ℕ → ScanAnswer → 
 Scans l i q out r out′ =
     Where (SoundPool l) (leaves swept (λ s. written out (s .listed)) out (named i (done (scan q (roomIn out) (indexOf l i))))) (unsound out)
     (scanned r leaving out′)
+
+-- A PORTION of a listing is told and written as its scan is; it tells besides where the next one starts, and whether the listing has ended
+
+abbrev pub shown : Shown → Portion
+shown p = record { scanned = swept (p .scanned); next = p .next; ended = p .ended }
+
+abbrev pub portioned : PortionAnswer → Answer Portion
+portioned (Portioned.Done p) = done p
+portioned (Portioned.Refused n) = refused n
+
+abbrev pub Portions : List ℕ → ℕ → Bound → Bound → Sift → List ℕ → PortionAnswer → List ℕ → Type 0
+Portions l i start end sift out r out′ =
+    Where (SoundPool l)
+    (leaves shown (λ p. written out (p .scanned .listed)) out (named i (done (portion start end sift (roomIn out) (indexOf l i))))) (unsound out)
+    (portioned r leaving out′)
 
 -- THE N-TH FRAME of tree i of the pool l, written into a line; every byte behind it is as it was. What writing a frame from a kind and entries, and reading one,
 -- promise stands in crate frame_text (specs/Answers): these two are given no pool.

@@ -1,6 +1,7 @@
 // What the calls answer. What each answer means, and what a call leaves in the lent bytes, stands in specs/Promise.
 use look_output::Listed;
 use look_output::Scanned;
+use look_portion::Portion;
 use model::Counts;
 use model::Totals;
 
@@ -27,6 +28,11 @@ pub enum GetAnswer {
 
 pub enum ScanAnswer {
     Done(Scanned),
+    Refused(u32),
+}
+
+pub enum PortionAnswer {
+    Done(Portion),
     Refused(u32),
 }
 

@@ -5,15 +5,18 @@ use mathlib.Core.List.{List, [], _∷_, _++_, append-assoc, append-nil}
 use Prim.Native.Nat.{ℕ, _+_, _*_, _≤_, _<_}
 use native.Mathlib.Omega.{arith}
 use native.Mathlib.Decide.{decLt}
-use lib.ListN.{length, take, drop, set, length-append}
+use lib.ListN.{length, take, drop, set, length-append, length-drop}
 use lib.Seq.{take-all, take-nil, take-at, drop-append-add, drop-drop, take-append-le}
 use lib.Dec.{ltb}
 use borrow.Author.Tests.{lt-ltb, le-ltb}
 use Rattle.words.specs.Words.{words, bytesOf, spell}
-use Rattle.words.proofs.Laws.{Bytes, bytesOf-words, length-bytesOf}
+use Rattle.words.proofs.Laws.{Bytes, bytesOf-words, length-bytesOf, words-append, words-bytesOf}
 use Rattle.model.specs.declared.Entry.{Entry}
+use Rattle.model.specs.Lists.{All, none, one}
+use Rattle.model.specs.Sound.{Fits}
+use Rattle.tree.proofs.Fitting.{Word, word-at}
 use Rattle.look_output.specs.declared.Listed.{Listed}
-use Rattle.look_output.specs.Output.{entryWords, outputOf, Page, page, putEntry, enlist, enlistAll}
+use Rattle.look_output.specs.Output.{entryWords, readEntries, outputOf, Page, page, putEntry, enlist, enlistAll}
 
 -- THE BYTES OF AN ENTRY
 
@@ -149,3 +152,30 @@ module _ (room : ℕ) (out : List ℕ) where
   shows-all es (f ∷ fs) p s =
       subst (λ (l : List Entry). Shows room out l (enlistAll room fs (enlist room f p))) (append-assoc es (f ∷ []) fs)
       (shows-all (es ++ (f ∷ [])) fs (enlist room f p) (shows-next es f p s))
+
+-- READ BACK
+
+read-words : (es : List Entry) (ws : List ℕ) → readEntries (length es) (entryWords es ++ ws) ≡ es
+read-words [] ws = refl
+read-words (e ∷ es) ws = ap (e ∷_) (read-words es ws)
+
+words-fit : {es : List Entry} → All Fits es → All Word (entryWords es)
+words-fit none = none
+words-fit (one {x = e} f fs) =
+    let size : Word (e .size) = omega (arith, f .size) in
+    one (f .key) (one (f .place) (one size (words-fit fs)))
+
+-- the entries that were written stand in the output
+pub read-back : (es : List Entry) (out : List ℕ) → All Fits es → readEntries (length es) (words (outputOf es out)) ≡ es
+read-back es out fit =
+    let rest : List ℕ = drop (24 * length es) out in
+    let bytes : List ℕ = bytesOf (entryWords es) in
+    let front : words (outputOf es out) ≡ entryWords es ++ words rest =
+    words-append (3 * length es) bytes rest (omega (arith, bytes-long es))
+    ∙ ap (λ (l : List ℕ). l ++ words rest) (words-bytesOf (entryWords es) (word-at (words-fit fit))) in
+    ap (readEntries (length es)) front ∙ read-words es (words rest)
+
+-- an output keeps its length
+pub output-long : (es : List Entry) (out : List ℕ) → 24 * length es ≤ length out → length (outputOf es out) ≡ length out
+output-long es out fits =
+    omega (arith, length-append (bytesOf (entryWords es)) (drop (24 * length es) out), bytes-long es, length-drop (24 * length es) out)

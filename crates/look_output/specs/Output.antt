@@ -1,8 +1,8 @@
--- The output of get and scan: entries of three words, one behind the other; and how it fills, an entry at a time. Assumes nothing.
-use Prim.Native.Nat.{ℕ, _+_, _*_, _/_}
+-- The output of get, scan and portion: entries of three words, one behind the other; and how it fills, an entry at a time. Assumes nothing.
+use Prim.Native.Nat.{ℕ, zero, suc, _+_, _*_, _/_}
 use mathlib.Core.Bool.{true, false, cond}
 use mathlib.Core.List.{List, [], _∷_, _++_}
-use lib.ListN.{length, take, drop}
+use lib.ListN.{length, take, drop, getD}
 use lib.Dec.{ltb}
 use Rattle.words.specs.Words.{bytesOf}
 use Rattle.model.specs.declared.Entry.{Entry}
@@ -12,6 +12,11 @@ use Rattle.look_output.specs.declared.Listed.{Listed}
 abbrev pub entryWords : List Entry → List ℕ
 entryWords [] = []
 entryWords (e ∷ es) = e .key ∷ e .place ∷ e .size ∷ entryWords es
+
+-- the other way: the first n entries that stand in some words
+abbrev pub readEntries : ℕ → List ℕ → List Entry
+readEntries zero ws = []
+readEntries (suc n) ws = record { key = getD ws 0 0; place = getD ws 1 0; size = getD ws 2 0 } ∷ readEntries n (drop 3 ws)
 
 -- how many entries fit whole
 abbrev pub roomIn : List ℕ → ℕ

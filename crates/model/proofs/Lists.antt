@@ -164,6 +164,24 @@ module _ {A : Type 0} where
   keep-none p none = refl
   keep-none p (one e es) = rw e (keep-none p es)
 
+  -- two tests that say the same of each element keep the same
+  pub keep-same : (p r : A → Bool) {xs : List A} → All (λ x. p x ≡ r x) xs → keep p xs ≡ keep r xs
+  keep-same p r none = refl
+  keep-same p r (one {x = x} {xs = xs} e es) = ap (λ (b : Bool). cond b (x ∷ keep p xs) (keep p xs)) e ∙ ap (λ (l : List A). cond (r x) (x ∷ l) l) (keep-same p r es)
+
+  -- what is kept has what each element had, passes the test, and stands in order where the list did
+  pub keep-each : {P : A → Type 0} (p : A → Bool) {xs : List A} → All P xs → All P (keep p xs)
+  keep-each p none = none
+  keep-each {P = P} p (one {x = x} g gs) = by-test (All P) (p x) (λ _. one g (keep-each p gs)) (λ _. keep-each p gs)
+
+  pub keep-passes : (p : A → Bool) (xs : List A) → All (λ x. p x ≡ true) (keep p xs)
+  keep-passes p [] = none
+  keep-passes p (x ∷ xs) = by-test (All (λ y. p y ≡ true)) (p x) (λ e. one e (keep-passes p xs)) (λ _. keep-passes p xs)
+
+  pub keep-ordered : {R : A → A → Type 0} (p : A → Bool) {xs : List A} → Ordered R xs → Ordered R (keep p xs)
+  keep-ordered p nil = nil
+  keep-ordered {R = R} p (cons {x = x} h s) = by-test (Ordered R) (p x) (λ _. cons (keep-each p h) (keep-ordered p s)) (λ _. keep-ordered p s)
+
   pub keep-reverse : (p : A → Bool) (xs : List A) → keep p (reverse xs) ≡ reverse (keep p xs)
   keep-reverse p [] = refl
   keep-reverse p (x ∷ xs) = ap (keep p) (reverse-cons x xs) ∙ keep-append p (reverse xs) (x ∷ []) ∙ ap (_++ keep p (x ∷ [])) (keep-reverse p xs) ∙ go (p x)

@@ -36,7 +36,7 @@ turned-each Down {xs} h = all-turned xs [] h none
 
 -- BOUNDS
 
-starts-below : (b : Bound) (j k : ℕ) → j ≤ k → starts b k ≡ false → starts b j ≡ false
+pub starts-below : (b : Bound) (j k : ℕ) → j ≤ k → starts b k ≡ false → starts b j ≡ false
 starts-below Unbounded j k le e = e
 starts-below (Included a) j k le e = lt-leb a j (omega (arith, leb-false a k e))
 starts-below (Excluded a) j k le e = le-ltb a j (omega (arith, ltb-false a k e))
@@ -119,7 +119,7 @@ last-false true b = and-false b
 last-false false b = refl
 
 module _ (q : Request) where
-  not-started : (e : Entry) → starts (q .start) (e .key) ≡ false → due q e ≡ false
+  pub not-started : (e : Entry) → starts (q .start) (e .key) ≡ false → due q e ≡ false
   not-started e g = rw g (and-false (isLive e))
 
   too-small : (e : Entry) → (isLive e ≡ true → leb (least (q .sift)) (e .size) ≡ false) → due q e ≡ false

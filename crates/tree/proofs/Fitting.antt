@@ -65,7 +65,7 @@ unfolding image
 image-words root m order [] le f = none
 image-words root m order (n ∷ ns) le f = all-append (block-words root m order n le (f zero)) (image-words root m order ns le (λ s. f (suc s)))
 
-word-at : {ws : List ℕ} → All Word ws → (i : ℕ) → getD ws i 0 < 2 ^ 64
+pub word-at : {ws : List ℕ} → All Word ws → (i : ℕ) → getD ws i 0 < 2 ^ 64
 word-at none i = omega arith
 word-at (one h hs) zero = h
 word-at (one h hs) (suc i) = word-at hs i

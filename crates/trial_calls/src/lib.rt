@@ -64,6 +64,7 @@ fn call_on(pool: &mut [u8], tree: usize, kind: u64, args: &[u64]) -> Told {
         6 => batches::compare(pool, tree, args),
         7 => trial_looks::look(pool, tree, kind, args, at(args, 0)),
         8 => trial_looks::look(pool, tree, kind, args, at(args, 8)),
+        16 => trial_looks::look(pool, tree, kind, args, at(args, 7)),
         _ => trial_looks::look(pool, tree, kind, args, at(args, 1)),
     }
 }

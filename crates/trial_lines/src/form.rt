@@ -17,6 +17,8 @@
 // | 13 reading | n: what follows is reading n | the same |
 // | 14 pack | none: the pool is packed into the other one | check of the other pool |
 // | 15 turn | none: the other pool is at hand from here on | none, not even 0: it is no call |
+// | 16 portion | tree; start: bounded, included, key; end: the same; least, bytes of room | written, more, opened, ended, check of the output and |
+// |  |  | of the next start as three words: bounded, included, key |
 //
 // What is read from a frame must be the same line when it is written again.
 //
@@ -53,6 +55,7 @@ fn formed_behind(kind: u64, args: &[u64]) -> bool {
         7 => ends(args, 1),
         8 => n == 9 && at(args, 7) < SIZES,
         9 => n == 2,
+        16 => n == 8 && at(args, 6) < SIZES,
         _ => false,
     }
 }

@@ -9,10 +9,10 @@ use trial::say;
 use trial::tell;
 use trial::times;
 
-// The kinds of calls are numbered from 1 on. Of these 12 and 13 are none, and are not told of.
-const KINDS: u64 = 14;
+// The kinds of calls are numbered from 1 on. Of these 12, 13 and 15 are none, and are not told of.
+const KINDS: u64 = 16;
 
-pub type Tally = [u64; 45];
+pub type Tally = [u64; 51];
 
 pub fn count(tally: &mut Tally, kind: u64, t: Told, same: bool) {
     count_in(tally, 0, t, same);
@@ -48,6 +48,7 @@ pub fn report(tally: &Tally) {
     report_kind(tally, 10, b"read frame ");
     report_kind(tally, 11, b"put ");
     report_kind(tally, 14, b"pack ");
+    report_kind(tally, 16, b"portion ");
     tell(b"", at(tally, 0));
     tell(b" calls, ", at(tally, 1));
     tell(b" refused, ", at(tally, 2));

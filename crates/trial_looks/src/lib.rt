@@ -1,7 +1,8 @@
-// Kinds 7 to 9 of the lines: calls on one tree with an output. Past what they write it must stay as it was. `index` passes these calls on as
-// they are.
+// Kinds 7 to 9 and 16 of the lines: calls on one tree with an output. Past what they write it must stay as it was. `index` passes these calls
+// on as they are.
 use frame_text::WriteAnswer;
 use index_promise::GetAnswer;
+use index_promise::PortionAnswer;
 use index_promise::ScanAnswer;
 use model::Bound;
 use model::Direction;
@@ -15,6 +16,7 @@ use trial_lines::line::list;
 use trial_lines::told::Told;
 use trial_lines::told::amiss;
 use trial_lines::told::check_first;
+use trial_lines::told::check_word;
 use trial_lines::told::refused;
 
 // What an output is filled with before a call.
@@ -33,6 +35,7 @@ fn look_into(pool: &[u8], tree: usize, kind: u64, args: &[u64], out: &mut [u8]) 
     match kind {
         7 => get(pool, tree, args, out),
         8 => scan(pool, tree, args, out),
+        16 => portion(pool, tree, args, out),
         _ => frame(pool, tree, args, out),
     }
 }
@@ -61,7 +64,7 @@ fn get(pool: &[u8], tree: usize, args: &[u64], out: &mut [u8]) -> Told {
 fn scan(pool: &[u8], tree: usize, args: &[u64], out: &mut [u8]) -> Told {
     let start = bound(args, 0);
     let end = bound(args, 3);
-    match index_look::scan(pool, tree, start, end, direction(args), sift(args), out) {
+    match index_look::scan(pool, tree, start, end, direction(args), sift(args, 7), out) {
         ScanAnswer::Done(s) => {
             let n = times(24, s.written);
             let t = Told {
@@ -79,6 +82,44 @@ fn scan(pool: &[u8], tree: usize, args: &[u64], out: &mut [u8]) -> Told {
         }
         ScanAnswer::Refused(n) => written(out, 0, refused(n)),
     }
+}
+
+fn portion(pool: &[u8], tree: usize, args: &[u64], out: &mut [u8]) -> Told {
+    let start = bound(args, 0);
+    let end = bound(args, 3);
+    match index_portion::portion(pool, tree, start, end, sift(args, 6), out) {
+        PortionAnswer::Done(p) => {
+            let s = p.scanned;
+            let next = p.next;
+            let n = times(24, s.written);
+            let t = Told {
+                n: 6,
+                of: [
+                    0,
+                    s.written as u64,
+                    s.more as u64,
+                    s.opened as u64,
+                    p.ended as u64,
+                    check_bound(check_first(out, n), next),
+                ],
+            };
+            written(out, n, t)
+        }
+        PortionAnswer::Refused(n) => written(out, 0, refused(n)),
+    }
+}
+
+// The check goes on with a bound: bounded, included, key.
+fn check_bound(before: u64, b: Bound) -> u64 {
+    match b {
+        Bound::Unbounded => check_words(before, 0, 0, 0),
+        Bound::Included(key) => check_words(before, 1, 1, key),
+        Bound::Excluded(key) => check_words(before, 1, 0, key),
+    }
+}
+
+fn check_words(before: u64, bounded: u64, included: u64, key: u64) -> u64 {
+    check_word(check_word(check_word(before, bounded), included), key)
 }
 
 fn bound(args: &[u64], i: usize) -> Bound {
@@ -102,8 +143,8 @@ fn direction(args: &[u64]) -> Direction {
 }
 
 // A scan for each size is one from 0 on.
-fn sift(args: &[u64]) -> Sift {
-    let least = size(at(args, 7));
+fn sift(args: &[u64], i: usize) -> Sift {
+    let least = size(at(args, i));
     if least == 0 {
         Sift::All
     } else {

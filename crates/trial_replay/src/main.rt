@@ -36,7 +36,7 @@ use trial_lines::tally::count;
 use trial_lines::tally::report;
 use trial_lines::told::same;
 
-// The longest pool of the list has 62,152 bytes.
+// The longest pool of the list has 38,464 bytes.
 type Pool = [u8; 65536];
 
 // What is kept between two bytes of the list: which pool is at hand and how long both are, how many lines have ended, what is known of the
@@ -52,7 +52,7 @@ fn main() {
     let mut first = [0u8; 65536];
     let mut second = [0u8; 65536];
     let mut numbers = [0u64; 2048];
-    let mut tally = [0u64; 45];
+    let mut tally = [0u64; 51];
     let mut s = State {
         pools: pools::none(),
         lines: 0,

@@ -1,5 +1,5 @@
-//! Document 01, and what document 02 adds to it, in plain Rust: one file to an idea, after the definitions of crates/model/specs of the same
-//! names. `pool` and `sound` say what they become in bytes (docs/POOL.md).
+//! Document 01, and what document 02 adds to it, in plain Rust: one file to an idea, after the definitions of the same names in crates/model/specs,
+//! of packing in crates/model_pack/specs, and of portions in crates/look_portion/specs. `pool` and `sound` say what they become in bytes (docs/POOL.md).
 pub mod change;
 pub mod forest;
 pub mod frame;
@@ -7,6 +7,7 @@ pub mod list;
 pub mod look;
 pub mod pack;
 pub mod pool;
+pub mod portion;
 pub mod read_frame;
 pub mod refuse;
 pub mod share;

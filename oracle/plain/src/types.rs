@@ -133,6 +133,14 @@ pub struct Scanned {
     pub opened: u64,
 }
 
+/// A part of a listing: what is shown of it, where the next part starts, and whether this one was the last.
+#[derive(Clone, Debug, PartialEq, Eq)]
+pub struct Portion {
+    pub scanned: Scanned,
+    pub next: Bound,
+    pub ended: bool,
+}
+
 impl Call {
     pub fn set(keys: &[u64], place: u64, size: u32) -> Call {
         Call { operation: Operation::Set(Reference { place, size }), places: vec![], sizes: vec![], keys: keys.to_vec() }

@@ -1,5 +1,6 @@
 //! Writes calls (at least so many) with their answers, for a program that replays them: one call a line, decimal numbers, one space between.
-//! Behind them it writes packings of worn pools, the numbered cases of document 01, and the readings (oracle/src/cases.rs).
+//! Behind them it writes packings of worn pools, with listings of what was packed, the numbered cases of document 01, and the readings
+//! (oracle/src/cases.rs).
 //!
 //!     sample [CALLS] [SEED]
 //!
@@ -29,6 +30,10 @@
 //! | 13 reading | n: what follows is reading n | the same |
 //! | 14 pack | none: the pool is packed into the other one | check of the other pool, where it is refused too |
 //! | 15 turn | none: the other pool is at hand from here on | none, not even 0: it is no call |
+//! | 16 portion | tree; start, end: as of a scan; least, bytes of room | written, more, opened, ended, check of the output written and next start |
+//!
+//! The next start stands behind the output as three 64-bit words: bounded, included, key. Bounded and included are 0 or 1, and a start that is not
+//! bounded is 0, 0, 0, among the arguments too.
 use oracle::cases;
 use oracle::frames;
 use oracle::lines::Lines;
@@ -36,7 +41,7 @@ use oracle::random::Random;
 use oracle::script::Step;
 use oracle::stand_in::StandIn;
 use oracle::trees;
-use oracle::walk::{Keys, Mood, Walk};
+use oracle::walk::{cursor, Keys, Mood, Walk};
 use oracle::worn::{Room, Target};
 use plain::forest::Forest;
 use plain::pool::length;
@@ -150,7 +155,7 @@ fn deep_pool(lines: &mut Lines, r: &mut Random, tree: u64) {
     }
 }
 
-/// A worn pool packed into no bytes, and worn pools packed into others of any kind; calls on what was packed, or, for some, damage.
+/// A worn pool packed into no bytes, and worn pools packed into others of any kind; calls on what was packed, and listings, or, for some, damage.
 fn sample_packs(lines: &mut Lines, r: &mut Random) {
     worn_pool(lines, r);
     lines.pack();
@@ -169,7 +174,24 @@ fn sample_packs(lines: &mut Lines, r: &mut Random) {
             let step = if r.one_in(3) { walk.look(r, lines.forest()) } else { walk.batch(r, lines.forest(), Mood::Churn) };
             lines.play(&step);
         }
+        if turn % 3 == 0 {
+            list(lines, r, &mut walk);
+        }
     }
+}
+
+/// A tree of the pool at hand in portions, with a batch behind each of them; at last the pool is damaged, and the next one refused.
+fn list(lines: &mut Lines, r: &mut Random, walk: &mut Walk) {
+    let i = r.below(2);
+    let mut cursor = cursor(r, lines.forest().map(|f| &f.roots[i]), &mut walk.keys[i]);
+    for _ in 0..6 {
+        let portion = Step::Portion { tree: i as u64, cursor, room: 24 * r.below(6) };
+        cursor.from = lines.play(&portion).next.expect("a portion");
+        let batch = walk.batch(r, lines.forest(), Mood::Churn);
+        lines.play(&batch);
+    }
+    lines.damage();
+    lines.play(&Step::Portion { tree: i as u64, cursor, room: 24 });
 }
 
 /// A pool whose trees are grown by batches, and then thinned.

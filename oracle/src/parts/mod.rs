@@ -17,6 +17,7 @@ mod looks;
 mod openings;
 mod packs;
 mod pools;
+mod portions;
 mod sequences;
 mod small;
 mod table;
@@ -39,16 +40,17 @@ impl<'l> Work<'l> {
     }
 
     /// Each part with its name and the share of the time at which it ends.
-    pub fn parts() -> [(&'static str, f64, Part<'l>); 10] {
+    pub fn parts() -> [(&'static str, f64, Part<'l>); 11] {
         [
             ("settings and lengths when opening", 0.02, Work::openings),
             ("refusals in the table's order", 0.04, Work::table),
-            ("sequences of short batches from a new pool", 0.15, Work::sequences),
-            ("short batches on every small tree", 0.42, Work::small_trees),
-            ("lookups of every small tree", 0.52, Work::small_looks),
-            ("full ways down, of every depth", 0.59, Work::deep),
-            ("random calls on random pools", 0.78, Work::random_pools),
-            ("packing small trees and worn pools", 0.9, Work::packs),
+            ("sequences of short batches from a new pool", 0.14, Work::sequences),
+            ("short batches on every small tree", 0.38, Work::small_trees),
+            ("lookups of every small tree", 0.47, Work::small_looks),
+            ("full ways down, of every depth", 0.54, Work::deep),
+            ("random calls on random pools", 0.71, Work::random_pools),
+            ("portions: listings of small trees and of random pools", 0.81, Work::portions),
+            ("packing small trees and worn pools", 0.91, Work::packs),
             ("damaged pools", 0.96, Work::damaged_pools),
             ("frames", 1.0, Work::frames),
         ]

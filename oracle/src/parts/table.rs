@@ -1,6 +1,6 @@
 //! Calls to which several numbers of the table apply: the first of them must be given.
 use super::{Found, Work};
-use crate::script::Step;
+use crate::script::{Cursor, Step};
 use crate::session::Session;
 use crate::trees;
 use plain::forest::Forest;
@@ -68,6 +68,8 @@ impl Work<'_> {
         steps.extend([0, 1, 14, 15, 16, 17, u64::MAX].iter().flat_map(|&i| [0, 1, 2, 500].map(|room| Step::Frame { tree, i, room })));
         steps.push(Step::Totals { tree });
         steps.push(Step::Scan { tree, request: Request { start: Bound::Unbounded, end: Bound::Unbounded, down: false, least: 0 }, room: 24 });
+        let cursors = [[0, 0, 0], [7, 9, 5], [1, 0, 5]].map(|from| Cursor { from, end: Bound::Unbounded, least: 0 });
+        steps.extend(cursors.iter().flat_map(|&cursor| [0, 23, 24, 100].map(|room| Step::Portion { tree, cursor, room })));
         for step in steps {
             let mut s = first.fork();
             let both: Vec<Step> = before.iter().cloned().chain([step.clone()]).collect();

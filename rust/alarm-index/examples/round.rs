@@ -1,7 +1,9 @@
-//! A night at the desk: alarms are taken in by time and by pen, one is struck out, and at five the round is listed.
+//! A night at the desk: alarms are taken in by time and by pen, one is struck out, at five the round is listed, and it is walked with a handheld.
 //!
 //!     ALARM_LIB="$PWD/$(link/archive)" cargo run --manifest-path rust/alarm-index/Cargo.toml --example round
-use alarm_index::{pool_len, Action, Direction, Expectation, Limits, Pool, Reference, Refusal, Settings, Sift, Tree, ENTRY_LEN, LINE_LEN};
+use alarm_index::{
+    pool_len, Action, Direction, Expectation, Limits, Listing, Pool, Reference, Refusal, Settings, Sift, Tree, ENTRY_LEN, LINE_LEN,
+};
 
 const BY_TIME: Tree = Tree::First;
 const BY_PEN: Tree = Tree::Second;
@@ -39,8 +41,19 @@ fn main() -> Result<(), Refusal> {
         }
     }
 
-    for alarm in pool.view().scan(BY_PEN, 5 << 32..6 << 32, Direction::Up, Sift::All, &mut out)?.entries {
+    for alarm in pool.view().list(BY_PEN, 5 << 32..6 << 32, Sift::All, &mut out) {
+        let alarm = alarm?;
         println!("pen 5 at {}: {} bytes at {:#x}", alarm.key & 0xffff_ffff, alarm.size, alarm.place);
+    }
+
+    // on the round: the handheld shows two alarms and then two more, the oldest first, and one comes in while the first two are read
+    let mut handheld = Listing::new(BY_TIME, 3600.., Sift::All);
+    let mut coming = Some(14_000);
+    while let Some(screen) = handheld.next(pool.view(), &mut out)? {
+        println!("on the handheld: {:?}", screen.entries.map(|alarm| alarm.key).collect::<Vec<_>>());
+        if let Some(second) = coming.take() {
+            pool.set(BY_TIME, &[second], Reference { place: 0x1180, size: 70 })?;
+        }
     }
 
     let totals = pool.view().totals(BY_TIME)?;

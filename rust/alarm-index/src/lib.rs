@@ -2,7 +2,8 @@
 //!
 //! It is verified software. This crate calls the archive of its C functions and adds no behaviour: each call takes any input, and is
 //! done or answers with a [`Refusal`], which leaves every lent byte as it was. Nothing is allocated, and nothing is kept between calls
-//! but the bytes of the pool; they may be stored, copied, and lent again later.
+//! but the bytes of the pool; they may be stored, copied, and lent again later. What a listing in portions keeps besides, the start of the next
+//! one and whether it has ended, stands in the caller's [`Listing`].
 //!
 //! A key is a `u64`. It stands for a [`Reference`], a place and a size. Place 0 marks a deletion: such an entry is dead, the others are
 //! live. Changes are made in batches of at most `order` keys, which ascend, equal neighbours allowed, and are taken first to last.
@@ -32,6 +33,9 @@
 //! # }
 //! ```
 //!
+//! [`View::scan`] lists what fits into one output. Where there may be more, [`Listing`] goes on from portion to portion, whatever changes between
+//! them, and [`View::list`] through all entries of a pool that stays as it is.
+//!
 //! # The archive
 //!
 //! `link/archive` of the repository writes it for this machine; the variable `ALARM_LIB` names it to cargo, by its whole path:
@@ -51,13 +55,15 @@ mod batch;
 mod frame;
 mod listing;
 mod pool;
+mod portions;
 pub mod raw;
 mod refusal;
 
 pub use batch::{Action, Counts, Expectation, Operation, Reference};
 pub use frame::{write_interior, write_leaf, Branch, Frame, Rows};
-pub use listing::{Direction, Entries, Entry, Got, Scanned, Sift};
+pub use listing::{Direction, Entries, Entry, Got, Portion, Scanned, Sift};
 pub use pool::{pool_len, Limits, Pool, Settings, Totals, Tree, View};
+pub use portions::{List, Listing};
 pub use refusal::Refusal;
 
 /// The bytes of an entry in the output of a listing.

@@ -1,6 +1,7 @@
-//! What a get and a scan list.
+//! What a get, a scan and a portion list.
 use crate::{Reference, ENTRY_LEN};
 use core::iter::FusedIterator;
+use core::ops::Bound;
 
 /// An entry of the index.
 #[derive(Clone, Copy, Debug, Default, PartialEq, Eq, Hash)]
@@ -26,8 +27,8 @@ impl Entry {
         self.place != 0
     }
 
-    /// An entry as it is written in an output: key, place, size, each eight bytes little-endian.
-    fn read(bytes: &[u8]) -> Entry {
+    /// The first entry as it is written in an output: key, place, size, each eight bytes little-endian.
+    pub(crate) fn read(bytes: &[u8]) -> Entry {
         let word = |i: usize| bytes[8 * i..8 * i + 8].iter().rev().fold(0, |n, &b| n << 8 | u64::from(b));
         Entry { key: word(0), place: word(1), size: word(2) as u32 }
     }
@@ -89,6 +90,21 @@ pub struct Scanned<'o> {
     pub more: bool,
     /// How many nodes were opened.
     pub opened: u64,
+}
+
+/// What a portion has listed, and where the next one starts.
+#[derive(Clone, Debug)]
+pub struct Portion<'o> {
+    /// The first that fitted whole, the smallest key first.
+    pub entries: Entries<'o>,
+    /// Whether another was due.
+    pub more: bool,
+    /// How many nodes were opened.
+    pub opened: u64,
+    /// Where the next portion starts: behind the last entry, or where this one did if it has none.
+    pub next: Bound<u64>,
+    /// Whether the listing ends with it: there was room for an entry, and no other was due.
+    pub ended: bool,
 }
 
 /// Which way a scan goes.

@@ -1,7 +1,9 @@
 //! A pool that is lent for changing, and one that is lent for reading.
 use crate::refusal::done;
-use crate::{raw, Action, Counts, Direction, Entries, Expectation, Got, Operation, Reference, Refusal, Scanned, Sift};
-use core::ops::RangeBounds;
+use crate::{
+    raw, Action, Counts, Direction, Entries, Expectation, Got, List, Listing, Operation, Portion, Reference, Refusal, Scanned, Sift,
+};
+use core::ops::{Bound, RangeBounds};
 
 /// One of the two trees of a pool.
 #[derive(Clone, Copy, Debug, PartialEq, Eq, Hash)]
@@ -246,6 +248,47 @@ impl<'a> View<'a> {
         let number = raw::scan(self.bytes, tree.number(), start, end, direction == Direction::Down, sift.least(), out, &mut told);
         let [written, more, opened] = told;
         done(number, Scanned { entries: Entries::new(out, written), more: more != 0, opened })
+    }
+
+    /// Lists one portion: the live entries from a start to an end, upwards, as many as fit in the output, and where the next portion starts.
+    /// The caller keeps that, as [`Listing`] does; the pool keeps nothing.
+    ///
+    /// An output that has no room for an entry shows nothing: `next` is then `start`, and the listing has not ended. After its end a portion is
+    /// like any other: it has what was set behind the last entry since.
+    ///
+    /// # Errors
+    /// [`Refusal::NotSound`].
+    pub fn portion(self, tree: Tree, start: Bound<u64>, end: Bound<u64>, sift: Sift, out: &mut [u8]) -> Result<Portion<'_>, Refusal> {
+        let (mut from, mut told) = (raw::words(start), [0; 4]);
+        let number = raw::portion(self.bytes, tree.number(), &mut from, end, sift.least(), out, &mut told);
+        let [written, more, opened, ended] = told;
+        let entries = Entries::new(out, written);
+        done(number, Portion { entries, more: more != 0, opened, next: raw::bound(from), ended: ended != 0 })
+    }
+
+    /// Lists the live entries in a range of keys, upwards, however many there are, and gives them one by one; or a refusal, which is
+    /// [`Refusal::NotSound`]. They come in portions through the output, and the pool is tested for each portion. Where the output has no room for
+    /// an entry it is not used, and the pool is tested for every entry.
+    ///
+    /// ```
+    /// # use alarm_index::{pool_len, Limits, Pool, Reference, Refusal, Settings, Sift, Tree, ENTRY_LEN};
+    /// # fn main() -> Result<(), Refusal> {
+    /// # let mut bytes = [0; pool_len(16, 4, 4)];
+    /// # let limits = Limits { order: 4, minimum: 2 };
+    /// # let mut pool = Pool::open(&mut bytes, Settings { nodes: 16, first: limits, second: limits })?;
+    /// pool.set(Tree::First, &[10, 20, 30, 40], Reference { place: 256, size: 16 })?;
+    /// let mut out = [0; 2 * ENTRY_LEN];
+    /// let mut keys = vec![];
+    /// for entry in pool.view().list(Tree::First, 20.., Sift::All, &mut out) {
+    ///     keys.push(entry?.key);
+    /// }
+    /// assert_eq!(keys, [20, 30, 40]);
+    /// # Ok(())
+    /// # }
+    /// ```
+    #[must_use]
+    pub fn list<'o>(self, tree: Tree, range: impl RangeBounds<u64>, sift: Sift, out: &'o mut [u8]) -> List<'a, 'o> {
+        List::new(self, Listing::new(tree, range, sift), out)
     }
 
     /// Writes the i-th node of a tree's preorder walk, counted from 0, as a line of hexadecimal without a line feed, and hands back the part

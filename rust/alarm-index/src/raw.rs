@@ -73,6 +73,19 @@ mod c {
             out_n: usize,
             told: *mut [u64; 3],
         ) -> u32;
+        pub fn alarm_portion(
+            pool: *const u8,
+            pool_n: usize,
+            tree: u64,
+            from: *mut [u64; 3],
+            end_bounded: bool,
+            end_included: bool,
+            end: u64,
+            least: u32,
+            out: *mut u8,
+            out_n: usize,
+            told: *mut [u64; 4],
+        ) -> u32;
         pub fn alarm_frame(pool: *const u8, pool_n: usize, tree: u64, i: u64, line: *mut u8, line_n: usize, len: *mut u64) -> u32;
         pub fn alarm_read_frame(
             line: *const u8,
@@ -215,12 +228,36 @@ pub fn scan(
     }
 }
 
+/// Lists a portion, upwards, as [`scan`] does. From: whether its start is bounded, whether it is included, each of them where it is not 0,
+/// and the key; afterwards the start of the next portion, or as it was where no entry was written. Told: entries written, 1 where another was
+/// due, nodes opened, and 1 where the listing has ended. Refused as 2, 19.
+#[must_use]
+pub fn portion(pool: &[u8], tree: u64, from: &mut [u64; 3], end: Bound<u64>, least: u32, out: &mut [u8], told: &mut [u64; 4]) -> u32 {
+    let (pool_n, out_n, (bounded, included, end)) = (pool.len(), out.len(), flags(end));
+    unsafe { c::alarm_portion(pool.as_ptr(), pool_n, tree, from, bounded, included, end, least, out.as_mut_ptr(), out_n, told) }
+}
+
 /// A bound as C has it: bounded, included, and the key.
 fn flags(bound: Bound<u64>) -> (bool, bool, u64) {
     match bound {
         Bound::Unbounded => (false, false, 0),
         Bound::Included(key) => (true, true, key),
         Bound::Excluded(key) => (true, false, key),
+    }
+}
+
+/// The start of a portion as [`portion`] takes it.
+pub(crate) fn words(start: Bound<u64>) -> [u64; 3] {
+    let (bounded, included, key) = flags(start);
+    [bounded.into(), included.into(), key]
+}
+
+/// The start of a portion as [`portion`] has left it.
+pub(crate) fn bound([bounded, included, key]: [u64; 3]) -> Bound<u64> {
+    match (bounded, included) {
+        (0, _) => Bound::Unbounded,
+        (_, 0) => Bound::Excluded(key),
+        _ => Bound::Included(key),
     }
 }
 

@@ -1,9 +1,9 @@
 //! Every call through the archive that is linked: what it answers, and that a refusal leaves the lent bytes as they were.
 use alarm_index::{
-    pool_len, raw, write_interior, write_leaf, Action, Branch, Counts, Direction, Entry, Expectation, Frame, Limits, Operation, Pool,
-    Reference, Refusal, Settings, Sift, Totals, Tree, View, ENTRY_LEN, FRAME_ENTRIES, LAYOUT, LINE_LEN,
+    pool_len, raw, write_interior, write_leaf, Action, Branch, Counts, Direction, Entry, Expectation, Frame, Limits, Listing, Operation,
+    Pool, Reference, Refusal, Settings, Sift, Totals, Tree, View, ENTRY_LEN, FRAME_ENTRIES, LAYOUT, LINE_LEN,
 };
-use std::ops::Bound::{Excluded, Included, Unbounded};
+use std::ops::Bound::{self, Excluded, Included, Unbounded};
 
 use alarm_index::Tree::{First, Second};
 
@@ -71,6 +71,7 @@ fn bytes_that_are_no_pool() {
         assert_eq!(View::new(&[]).totals(tree), Err(Refusal::NotSound));
         assert_eq!(View::new(&bytes).get(tree, &[1], &mut []).err(), Some(Refusal::NotSound));
         assert_eq!(View::new(&bytes).scan(tree, .., Direction::Up, Sift::All, &mut []).err(), Some(Refusal::NotSound));
+        assert_eq!(View::new(&bytes).portion(tree, Unbounded, Unbounded, Sift::All, &mut []).err(), Some(Refusal::NotSound));
         assert_eq!(View::new(&bytes).frame(tree, 0, &mut []), Err(Refusal::NotSound));
         assert_eq!(Pool::new(&mut bytes).remove(tree, &[1]), Err(Refusal::NotSound));
     }
@@ -265,6 +266,121 @@ fn scans() {
     assert_eq!(seen(&p, .., up, Sift::All, 0), (vec![], true, 2));
 }
 
+/// Keys, whether another was due, nodes opened, where the next portion starts, and whether the listing has ended.
+type Told = (Vec<u64>, bool, u64, Bound<u64>, bool);
+
+fn portion(bytes: &[u8], start: Bound<u64>, end: Bound<u64>, sift: Sift, room: usize) -> Told {
+    let mut out = vec![0; room * ENTRY_LEN];
+    let p = View::new(bytes).portion(First, start, end, sift, &mut out).expect("sound");
+    (p.entries.map(|e| e.key).collect(), p.more, p.opened, p.next, p.ended)
+}
+
+#[test]
+fn portions() {
+    let p = p();
+    let of = |start, room| portion(&p, start, Unbounded, Sift::All, room);
+    assert_eq!(of(Unbounded, 2), (vec![1, 2], true, 2, Excluded(2), false));
+    assert_eq!(of(Excluded(2), 2), (vec![3, 4], true, 3, Excluded(4), false));
+    assert_eq!(of(Excluded(4), 2), (vec![5], false, 2, Excluded(5), true));
+    assert_eq!(of(Excluded(5), 2), (vec![], false, 1, Excluded(5), true));
+    // a full one ends it too
+    assert_eq!(of(Unbounded, 5), (vec![1, 2, 3, 4, 5], false, 3, Excluded(5), true));
+    // without room it never ends
+    assert_eq!(of(Unbounded, 0), (vec![], true, 2, Unbounded, false));
+    assert_eq!(of(Included(4), 0), (vec![], true, 2, Included(4), false));
+    assert_eq!(of(Excluded(5), 0), (vec![], false, 1, Excluded(5), false));
+
+    assert_eq!(portion(&p, Included(2), Excluded(4), Sift::All, 9), (vec![2, 3], false, 3, Excluded(3), true));
+    assert_eq!(portion(&p, Included(2), Included(4), Sift::All, 2), (vec![2, 3], true, 3, Excluded(3), false));
+    assert_eq!(portion(&p, Included(5), Included(1), Sift::All, 9), (vec![], false, 1, Included(5), true));
+    assert_eq!(portion(&p, Unbounded, Unbounded, Sift::SizeAtLeast(17), 9), (vec![], false, 3, Unbounded, true));
+
+    let mut out = [7; ENTRY_LEN + 1];
+    let pens = View::new(&p).portion(Second, Unbounded, Unbounded, Sift::All, &mut out).expect("sound");
+    assert!(pens.entries.eq([Entry { key: 9, place: 265, size: 7 }]));
+    assert_eq!(out[ENTRY_LEN], 7);
+}
+
+/// No key is greater, and still it is shown once.
+#[test]
+fn the_greatest_key_in_a_portion() {
+    let mut bytes = p();
+    Pool::new(&mut bytes).set(First, &[u64::MAX], Reference { place: 300, size: 20 }).expect("done");
+    let of = |start| portion(&bytes, start, Unbounded, Sift::All, 1);
+    assert_eq!(of(Excluded(4)), (vec![5], true, 2, Excluded(5), false));
+    assert_eq!(of(Excluded(5)), (vec![u64::MAX], false, 2, Excluded(u64::MAX), true));
+    assert_eq!(of(Excluded(u64::MAX)), (vec![], false, 1, Excluded(u64::MAX), true));
+}
+
+/// The keys of the next portion; none after the end.
+fn keys_of(listing: &mut Listing, bytes: &[u8], room: usize) -> Option<Vec<u64>> {
+    let mut out = vec![0; room * ENTRY_LEN];
+    let portion = listing.next(View::new(bytes), &mut out).expect("sound");
+    portion.map(|p| p.entries.map(|e| e.key).collect())
+}
+
+#[test]
+fn a_listing() {
+    let p = p();
+    let mut listing = Listing::new(First, 2.., Sift::All);
+    assert_eq!(keys_of(&mut listing, &p, 1), Some(vec![2]));
+    assert_eq!(keys_of(&mut listing, &p, 0), Some(vec![]));
+    assert_eq!(listing.next(View::new(&p[1..]), &mut []).err(), Some(Refusal::NotSound));
+    assert_eq!(keys_of(&mut listing.clone(), &p, 9), Some(vec![3, 4, 5]));
+    assert_eq!(keys_of(&mut listing, &p, 3), Some(vec![3, 4, 5]));
+    assert_eq!((keys_of(&mut listing, &p, 3), keys_of(&mut listing, &p, 0)), (None, None));
+
+    let mut nothing = Listing::new(First, 6.., Sift::All);
+    assert_eq!((keys_of(&mut nothing, &p, 1), keys_of(&mut nothing, &p, 1)), (Some(vec![]), None));
+}
+
+#[test]
+fn a_listing_with_batches_between() {
+    let mut bytes = p();
+    let r = Reference { place: 300, size: 20 };
+    let mut listing = Listing::new(First, .., Sift::All);
+    assert_eq!(keys_of(&mut listing, &bytes, 2), Some(vec![1, 2]));
+
+    // the last that was shown goes, and with it one that was due: the two leaves become one; 0 comes in too late, and 6 in time
+    let mut pool = Pool::new(&mut bytes);
+    assert_eq!(pool.remove(First, &[2, 4]), Ok(counts(0, 0, 2, 0)));
+    assert_eq!(pool.set(First, &[0, 6], r), Ok(counts(2, 0, 0, 0)));
+    assert_eq!(keys_of(&mut listing, &bytes, 2), Some(vec![3, 5]));
+
+    // the other tree has no part in it
+    let mut pool = Pool::new(&mut bytes);
+    assert_eq!(pool.set(Second, &[4, 7], r), Ok(counts(2, 0, 0, 0)));
+    assert_eq!(pool.remove(Second, &[9]), Ok(counts(0, 0, 1, 0)));
+    let next = portion(&bytes, Excluded(5), Unbounded, Sift::All, 2);
+    assert_eq!(next, (vec![6], false, 2, Excluded(6), true));
+    assert_eq!((keys_of(&mut listing, &bytes, 2), keys_of(&mut listing, &bytes, 2)), (Some(vec![6]), None));
+
+    // after the end there is a portion from there
+    Pool::new(&mut bytes).set(First, &[7], r).expect("done");
+    assert_eq!(portion(&bytes, Excluded(6), Unbounded, Sift::All, 2), (vec![7], false, 2, Excluded(7), true));
+}
+
+#[test]
+fn a_list_of_entries() {
+    let bytes = p();
+    let list = |start, end, len| -> Result<Vec<Entry>, Refusal> {
+        View::new(&bytes).list(First, (start, end), Sift::All, &mut vec![0; len]).collect()
+    };
+    // no room for an entry, for one, for two, for all, and for more
+    for len in [0, ENTRY_LEN - 1, ENTRY_LEN, 2 * ENTRY_LEN + 1, 5 * ENTRY_LEN, 9 * ENTRY_LEN] {
+        assert_eq!(list(Unbounded, Unbounded, len), Ok((1..=5).map(entry).collect()));
+        assert_eq!(list(Excluded(2), Excluded(5), len), Ok(vec![entry(3), entry(4)]));
+        assert_eq!(list(Included(6), Unbounded, len), Ok(vec![]));
+    }
+    let mut out = [7; ENTRY_LEN];
+    let mut refused = View::new(&bytes[1..]).list(First, .., Sift::All, &mut out);
+    assert_eq!((refused.next(), refused.next()), (Some(Err(Refusal::NotSound)), None));
+    assert_eq!(out, [7; ENTRY_LEN]);
+    let mut large = View::new(&bytes).list(Second, .., Sift::SizeAtLeast(7), &mut out);
+    assert_eq!((large.next(), large.next(), large.next()), (Some(Ok(Entry { key: 9, place: 265, size: 7 })), None, None));
+    assert_eq!(View::new(&bytes).list(Second, .., Sift::SizeAtLeast(8), &mut out).next(), None);
+}
+
 #[test]
 fn entries_from_both_ends() {
     let bytes = p();
@@ -342,4 +458,29 @@ fn the_raw_calls() {
     assert_eq!((raw::totals(&bytes, 0, &mut totals), totals), (0, [5, 0, 80]));
     assert_eq!((raw::totals(&bytes, 1, &mut totals), totals), (0, [1, 0, 7]));
     assert_eq!(raw::pack(&bytes, &mut p()), 18);
+}
+
+/// A refused portion leaves what it was lent, and one that shows nothing its start, to the flags.
+#[test]
+fn the_raw_portion() {
+    let bytes = p();
+    // the answer, the start afterwards, what was told, and whether the output is as it was
+    let portion = |bytes: &[u8], tree, mut from, end, len| {
+        let (mut out, mut told) = ([7; ENTRY_LEN], [7; 4]);
+        let number = raw::portion(bytes, tree, &mut from, end, 0, &mut out[..len], &mut told);
+        (number, from, told, out == [7; ENTRY_LEN])
+    };
+    for tree in [2, 3, 1 << 32, u64::MAX] {
+        assert_eq!(portion(&bytes, tree, [7, 7, 3], Unbounded, 24), (19, [7, 7, 3], [7; 4], true));
+        assert_eq!(portion(&bytes[1..], tree, [7, 7, 3], Unbounded, 24), (2, [7, 7, 3], [7; 4], true));
+    }
+    assert_eq!(portion(&bytes, 0, [7, 7, 3], Unbounded, 0), (0, [7, 7, 3], [0, 1, 2, 0], true));
+    assert_eq!(portion(&bytes, 0, [0, 7, 9], Unbounded, 0), (0, [0, 7, 9], [0, 1, 2, 0], true));
+    assert_eq!(portion(&bytes, 0, [7, 7, 9], Unbounded, 23), (0, [7, 7, 9], [0, 0, 1, 0], true));
+    assert_eq!(portion(&bytes, 0, [7, 7, 9], Unbounded, 24), (0, [7, 7, 9], [0, 0, 1, 1], true));
+    assert_eq!(portion(&bytes, 0, [7, 0, 3], Excluded(4), 24), (0, [7, 0, 3], [0, 0, 2, 1], true));
+
+    assert_eq!(portion(&bytes, 0, [7, 7, 3], Unbounded, 24), (0, [1, 0, 3], [1, 1, 3, 0], false));
+    assert_eq!(portion(&bytes, 0, [7, 0, 3], Included(4), 24), (0, [1, 0, 4], [1, 0, 2, 1], false));
+    assert_eq!(portion(&bytes, 0, [0, 7, 9], Unbounded, 24), (0, [1, 0, 1], [1, 1, 2, 0], false));
 }

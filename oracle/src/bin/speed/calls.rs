@@ -18,13 +18,13 @@ pub const LISTED: usize = 10;
 type Map = BTreeMap<u64, Reference>;
 
 /// The three stores, filled alike.
-struct Filled {
-    settings: PoolSettings,
-    forest: Forest,
-    pool: Vec<u8>,
+pub struct Filled {
+    pub settings: PoolSettings,
+    pub forest: Forest,
+    pub pool: Vec<u8>,
     tree: Tree,
-    map: Map,
-    held: Vec<u64>,
+    pub map: Map,
+    pub held: Vec<u64>,
     heap: [usize; 2],
 }
 
@@ -75,7 +75,7 @@ fn key(ascending: bool, i: u64) -> u64 {
 }
 
 /// Tree 0 filled by batches of KEYS until half of the nodes are used, or depth 8, at which no more is set, comes near. Tree 1 is one empty leaf.
-fn fill(ps: PoolSettings, ascending: bool) -> Filled {
+pub fn fill(ps: PoolSettings, ascending: bool) -> Filled {
     let mut forest = Forest::new(ps.nodes);
     let mut calls = vec![];
     let mut next = 0;
@@ -111,13 +111,13 @@ fn sorted(r: &mut Random, n: usize, mut one: impl FnMut(&mut Random) -> u64) -> 
 }
 
 /// A call that ends after the soundness test.
-fn refused(lib: &dyn Library, pool: &mut [u8], long: &[u64]) -> f64 {
+pub fn refused(lib: &dyn Library, pool: &mut [u8], long: &[u64]) -> f64 {
     let mut counts = [0; 4];
     nanos(|| assert_eq!(black_box(lib.remove(pool, 0, long, &mut counts)), 3))
 }
 
 /// The own time of a call.
-fn own(lib: &dyn Library, pool: &mut [u8], long: &[u64], call: impl FnOnce(&mut [u8])) -> f64 {
+pub fn own(lib: &dyn Library, pool: &mut [u8], long: &[u64], call: impl FnOnce(&mut [u8])) -> f64 {
     let before = refused(lib, pool, long);
     let whole = nanos(|| call(pool));
     whole - (before + refused(lib, pool, long)) / 2.0

@@ -54,10 +54,14 @@ impl Readings {
 }
 
 /// Turn after turn until the time is up: at least 9, at most 20,001.
-pub fn turns(time: Duration, mut turn: impl FnMut(usize)) {
+pub fn turns(time: Duration, turn: impl FnMut(usize)) {
+    at_least(9, time, turn);
+}
+
+fn at_least(least: usize, time: Duration, mut turn: impl FnMut(usize)) {
     let end = Instant::now() + time;
     let mut n = 0;
-    while n < 9 || (Instant::now() < end && n < 20_001) {
+    while n < least || (Instant::now() < end && n < 20_001) {
         turn(n);
         n += 1;
     }
@@ -67,5 +71,12 @@ pub fn turns(time: Duration, mut turn: impl FnMut(usize)) {
 pub fn readings(time: Duration, mut turn: impl FnMut() -> f64) -> Readings {
     let mut r = Readings::default();
     turns(time, |_| r.add(turn()));
+    r
+}
+
+/// The same of a turn that may take the better part of a minute: one is enough.
+pub fn long_readings(time: Duration, mut turn: impl FnMut() -> f64) -> Readings {
+    let mut r = Readings::default();
+    at_least(1, time, |_| r.add(turn()));
     r
 }
