@@ -50,7 +50,7 @@ callEach keys ps sizes = record { operation = SetEach; places = ps; sizes = size
 abbrev pub boundFor : Bool → Bool → ℕ → Bound
 boundFor bounded included key = cond bounded (cond included (Included key) (Excluded key)) Unbounded
 
--- the start of a portion by its three numbers: bounded and included are flags that are not 0
+-- the start of a portion by its three numbers, bounded, included and key: a flag is set where it is not 0
 abbrev pub startFor : List ℕ → Bound
 startFor from = boundFor (not (eqb (getD from 0 0) 0)) (not (eqb (getD from 1 0) 0)) (getD from 2 0)
 

@@ -33,12 +33,17 @@ pub fn table(lib: &dyn Library, time: Duration) {
         "| order | nodes | keys | entries | depth | bytes an entry: pool, oracle, map | set ns: own, oracle, map | remove ns | get ns | scan ns |"
     );
     println!("|---|---|---|---|---|---|---|---|---|---|");
+    each_pool(time, |f, ascending, own| row(lib, f, ascending, own, time));
+}
+
+/// A row for each of the filled stores: whether their keys ascend, and how long own times are taken of them.
+pub fn each_pool(time: Duration, mut row: impl FnMut(Filled, bool, Duration)) {
     for order in [4, 16, 32] {
         for nodes in [64, 1024, 16_384] {
             for ascending in [false, true] {
                 let ps = PoolSettings::alike(nodes, order, order / 2);
                 // own times are small differences of large ones where the pool is large, and need more readings
-                row(lib, fill(ps, ascending), ascending, if nodes == 16_384 { 10 * time } else { time }, time);
+                row(fill(ps, ascending), ascending, if nodes == 16_384 { 10 * time } else { time });
             }
         }
     }
@@ -75,7 +80,7 @@ fn key(ascending: bool, i: u64) -> u64 {
 }
 
 /// Tree 0 filled by batches of KEYS until half of the nodes are used, or depth 8, at which no more is set, comes near. Tree 1 is one empty leaf.
-pub fn fill(ps: PoolSettings, ascending: bool) -> Filled {
+fn fill(ps: PoolSettings, ascending: bool) -> Filled {
     let mut forest = Forest::new(ps.nodes);
     let mut calls = vec![];
     let mut next = 0;

@@ -1,11 +1,11 @@
 //! Portions of ten on the pools of the calls: the own time of one from any place, beside a scan from the same start and a BTreeMap that is resumed
 //! there; and the whole list in such portions, each with its soundness test, beside one scan of all and the map ten by ten.
-use crate::calls::{fill, own, refused, Filled, LISTED};
+use crate::calls::{each_pool, own, refused, Filled, LISTED};
 use crate::clock::{long_readings, nanos, readings, turns, Readings};
 use oracle::library::words;
 use oracle::random::Random;
 use oracle::Library;
-use plain::{Bound, PoolSettings, Reference, Request};
+use plain::{Bound, Reference, Request};
 use std::hint::black_box;
 use std::ops::Bound::{Excluded, Unbounded};
 use std::time::Duration;
@@ -15,15 +15,7 @@ pub fn table(lib: &dyn Library, time: Duration) {
         "| order | nodes | keys | entries | depth | test µs | portion ns: own | scan ns: own | map ns | whole list µs: portions | one scan | map |"
     );
     println!("|---|---|---|---|---|---|---|---|---|---|---|---|");
-    for order in [4, 16, 32] {
-        for nodes in [64, 1024, 16_384] {
-            for ascending in [false, true] {
-                let f = fill(PoolSettings::alike(nodes, order, order / 2), ascending);
-                // as for the calls
-                row(lib, f, ascending, if nodes == 16_384 { 10 * time } else { time }, time);
-            }
-        }
-    }
+    each_pool(time, |f, ascending, own_time| row(lib, f, ascending, own_time, time));
 }
 
 fn row(lib: &dyn Library, mut f: Filled, ascending: bool, own_time: Duration, time: Duration) {
