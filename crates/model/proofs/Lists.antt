@@ -71,7 +71,7 @@ all_of f none = none
 all_of f (one g gs) = one g (all_of f gs)
 
 -- each of the one stands so to each of the other, seen from the other
-pub all_swap : {A B : Type 0} {R : A → B → Type 0} {xs : List A} {ys : List B} → All (λ x. All (R x) ys) xs → All (λ y. All (λ x. R x y) xs) ys
+pub all_swap : {A B : Type 0} {R : A → B → Type 0} {ys : List B} {xs : List A} → All (λ x. All (R x) ys) xs → All (λ y. All (λ x. R x y) xs) ys
 all_swap {ys = ys} none = all_every ys (λ y. none)
 all_swap (one h hs) = all_both (λ y g gs. one g gs) h (all_swap hs)
 

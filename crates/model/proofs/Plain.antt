@@ -96,16 +96,22 @@ effect_back t b h = rw (from_back t.key b h, first_back t.key (from t.key b) h) 
 abbrev pub Fit : List Entry → List Entry → List Task → Type 0
 Fit a c ts = All (λ t. Under t.key a × Over t.key c) ts
 
+list_within : (a c : List Entry) {ts : List Task} (b : List Entry) → Fit a c ts → plain_list ts (a ++ (b ++ c)) ≡ a ++ (plain_list ts b ++ c)
+list_within a c b none = refl
+list_within a c b (one {x = t} {xs = ts} h hs) =
+    ap (plain_list ts) (step_front t (b ++ c) h.0 ∙ ap (a ++◌) (step_back_lem t b h.1)) ∙ list_within a c (step t b) hs
+
 pub list_inside : {ts : List Task} (a b c : List Entry) → Fit a c ts → plain_list ts (a ++ (b ++ c)) ≡ a ++ (plain_list ts b ++ c)
-list_inside a b c none = refl
-list_inside a b c (one {x = t} {xs = ts} h hs) =
-    ap (plain_list ts) (step_front t (b ++ c) h.0 ∙ ap (a ++◌) (step_back_lem t b h.1)) ∙ list_inside a (step t b) c hs
+list_inside a b c h = list_within a c b h
+
+counts_within : (a c : List Entry) {ts : List Task} (b : List Entry) (n : Counts) → Fit a c ts → plain_counts ts (a ++ (b ++ c)) n ≡ plain_counts ts b n
+counts_within a c b n none = refl
+counts_within a c b n (one {x = t} {xs = ts} h hs) =
+    rw (step_front t (b ++ c) h.0, step_back_lem t b h.1, effect_front t (b ++ c) h.0, effect_back t b h.1)
+    (counts_within a c (step t b) (count (effect_on t b) n) hs)
 
 pub counts_inside : {ts : List Task} (a b c : List Entry) (n : Counts) → Fit a c ts → plain_counts ts (a ++ (b ++ c)) n ≡ plain_counts ts b n
-counts_inside a b c n none = refl
-counts_inside a b c n (one {x = t} {xs = ts} h hs) =
-    rw (step_front t (b ++ c) h.0, step_back_lem t b h.1, effect_front t (b ++ c) h.0, effect_back t b h.1)
-    (counts_inside a (step t b) c (count (effect_on t b) n) hs)
+counts_inside a b c n h = counts_within a c b n h
 
 pub list_append : (ts us : List Task) (es : List Entry) → plain_list (ts ++ us) es ≡ plain_list us (plain_list ts es)
 list_append [] us es = refl
@@ -399,12 +405,12 @@ passes t {es = es} (one {x = u} {xs = us} ne nes) s =
     }
 
 -- two batches that share no key
-pub list_swap : {ts us : List Task} {es : List Entry} → All (λ t. Differs t us) ts → Sorted es → plain_list us (plain_list ts es) ≡ plain_list ts (plain_list us es)
+pub list_swap : {us ts : List Task} {es : List Entry} → All (λ t. Differs t us) ts → Sorted es → plain_list us (plain_list ts es) ≡ plain_list ts (plain_list us es)
 list_swap none s = refl
 list_swap {us = us} {es = es} (one {x = t} {xs = ts} d ds) s =
     list_swap ds (step_sorted t s) ∙ ap (plain_list ts) (sym (passes t d s).list)
 
-pub counts_swap : {ts us : List Task} {es : List Entry} (c : Counts) → All (λ t. Differs t us) ts → Sorted es → plain_counts ts (plain_list us es) c ≡ plain_counts ts es c
+pub counts_swap : {us ts : List Task} {es : List Entry} (c : Counts) → All (λ t. Differs t us) ts → Sorted es → plain_counts ts (plain_list us es) c ≡ plain_counts ts es c
 counts_swap c none s = refl
 counts_swap {us = us} {es = es} c (one {x = t} {xs = ts} d ds) s =
     ap (λ (f : Effect). plain_counts ts (step t (plain_list us es)) (count f c)) (passes t d s).effect

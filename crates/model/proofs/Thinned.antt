@@ -47,7 +47,7 @@ module _ {A : Type 0} {P : A → Type 0} where
       go false true f g k = goes (g refl refl) k
       go false false f g k = k
 
-  pub thin_again : {xs ys zs : List A} → Thinned P xs ys → Thinned P ys zs → Thinned P xs zs
+  pub thin_again : {ys zs xs : List A} → Thinned P xs ys → Thinned P ys zs → Thinned P xs zs
   thin_again t done = t
   thin_again t (goes g u) = goes g (thin_again t u)
   thin_again (stays t) (stays u) = stays (thin_again t u)

@@ -1,0 +1,16 @@
+-- `batch` meets its contract. The loop's invariant: the model's calls of the root from here are its calls from the start (`Running`). Assumes nothing.
+use mathlib.Core.Path.{◌≡◌, refl, ◌∙◌}
+use Prim.Native.Nat.{◌-◌}
+use native.Mathlib.Omega.{arith}
+use lib.ListN.{length}
+use Rattle.words.specs.Words.{words}
+use Rattle.model.specs.Refuse.{call}
+use Rattle.batch.proofs.Rounds.{Running, start, keeps, next, ask, returned, further, again, finish}
+use Rattle.batch.proofs.batch.Given as goal
+
+abbrev pub invariant-loop-run : goal.invariant-loop-run
+invariant-loop-run l =
+    (length l.pool ≡ length l.initial.pool) × Running l.st (words l.initial.pool) l.initial.height (call l.op l.places l.sizes l.keys) (words l.pool) l.height l.run
+
+abbrev pub decreases-loop-run : goal.decreases-loop-run
+decreases-loop-run l = length l.keys - l.run.next

@@ -1,0 +1,17 @@
+-- `take_keys` meets its contract. The loop's invariant (`Turn`): the model's leaf, going on from the rows, the key and the counts of now, ends as it
+-- does from those at first. Where the test fails the model stops too (`turn_done`). Assumes nothing.
+use mathlib.Core.Path.{◌≡◌, refl, sym, ◌∙◌}
+use Prim.Native.Nat.{◌-◌}
+use native.Mathlib.Omega.{arith}
+use lib.ListN.{length}
+use Rattle.words.specs.Words.{words}
+use Rattle.model.specs.Refuse.{call}
+use Rattle.batch_leaf.proofs.Turns.{Turn, turn_start, turn_within, turn_leaf, turn_lent, turn_on, turn_done}
+use Rattle.batch_leaf.proofs.take_keys.Given as goal
+
+abbrev pub invariant-loop-st : goal.invariant-loop-st
+invariant-loop-st l =
+    Turn l.st (words l.initial.pool) (words l.pool) l.leaf (call l.op l.places l.sizes l.keys) l.initial.now l.changed l.now × (length l.pool ≡ length l.initial.pool)
+
+abbrev pub decreases-loop-st : goal.decreases-loop-st
+decreases-loop-st l = length l.keys - l.now.next

@@ -1,0 +1,27 @@
+-- The cycle of node change and interior change. The loop of an interior (`Roaming`): the model's walk, going on from the child, the key and the counts of
+-- now, ends as it does from the first child. The height falls round the cycle. Assumes nothing.
+use Prim.Native.Nat.{ℕ, suc, ◌+◌, ◌-◌, ◌*◌, ◌<◌}
+use mathlib.Core.Path.{◌≡◌, refl, sym, ◌∙◌, subst}
+use native.Mathlib.Omega.{arith}
+use lib.ListN.{length}
+use Rattle.words.specs.Words.{words}
+use Rattle.model.specs.Refuse.{call}
+use Rattle.batch_node.specs.Promises.{ToChange, NodeChanged}
+use Rattle.batch_node.proofs.Rounds.{Roaming, Sent, round_start, round_at, round, next_in, child_in, child_call, pending, round_again, round_less, round_end}
+use borrow.Author.Rules.{rules}
+use Rattle.batch_node.proofs.+interior_change_node_change.Given as goal
+
+-- the height falls round the cycle, from an interior to its children
+abbrev pub decreases-interior_change : goal.decreases-interior_change
+decreases-interior_change l = 2 * l.node.height + 1
+
+abbrev pub decreases-node_change : goal.decreases-node_change
+decreases-node_change l = 2 * l.node.height + 2
+
+abbrev pub invariant-interior_change-loop-op : goal.invariant-interior_change-loop-op
+invariant-interior_change-loop-op l =
+    Roaming l.st (words l.initial.pool) (words l.pool) (l.node.height - 1) l.node (call l.op l.places l.sizes l.keys) l.initial.now l.i l.changed l.now × (length l.pool ≡ length l.initial.pool)
+
+abbrev pub decreases-interior_change-loop-op : goal.decreases-interior_change-loop-op
+decreases-interior_change-loop-op l =
+    length l.keys - l.now.next

@@ -1,0 +1,18 @@
+-- `put_number` meets its contract. The loop's invariant: the bytes from k on are written, and `rest` is what lies over them. Assumes nothing.
+use mathlib.Core.Path.{◌≡◌, refl, sym, ap, ◌∙◌}
+use Prim.Native.Nat.{ℕ, ◌+◌, ◌-◌, ◌/◌, ◌^◌, ◌≤◌}
+use native.Mathlib.Nat.{div-one}
+use native.Mathlib.Omega.{arith}
+use lib.ListN.{length, length-set}
+use borrow.Author.Rules.{rules}
+use Rattle.model.specs.Frame.{bytes}
+use Rattle.frame_text.specs.Digits.{spelled}
+use Rattle.frame_text.proofs.Lines.{spelled_none, number_more, rest_more}
+use Rattle.frame_text.proofs.digits.put_number.Given as goal
+
+abbrev pub invariant-loop-k : goal.invariant-loop-k
+invariant-loop-k l =
+    (l.k ≤ l.w) × ((length l.line ≡ length l.initial.line) × ((l.rest ≡ l.value / 256 ^ (l.w - l.k)) × (l.line ≡ spelled l.initial.line (l.a + l.k) (l.w - l.k) (bytes (l.w - l.k) l.value))))
+
+abbrev pub decreases-loop-k : goal.decreases-loop-k
+decreases-loop-k l = l.k

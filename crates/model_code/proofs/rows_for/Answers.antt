@@ -1,0 +1,10 @@
+-- `rows_for` meets its contract: twice the larger order. Assumes nothing.
+use mathlib.Core.Path.{ap}
+use Prim.Native.Nat.{ℕ, ◌*◌}
+use borrow.Author.Rules.{rules}
+use Rattle.model.specs.Sound.{rows_for}
+use Rattle.model_code.proofs.rows_for.Goals as goal
+
+pub returns : goal.returns
+unfolding rows_for
+returns c = ap (λ (n : ℕ). 2 * n) c.greater.ensures

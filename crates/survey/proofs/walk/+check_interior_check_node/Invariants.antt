@@ -1,0 +1,37 @@
+-- `check_interior` and `check_node`, which call each other, meet their contracts, by recursion on the height. The loop's invariant: what the walk owes
+-- from row `i` on is what it owed at the start (`Going`). Assumes nothing.
+use mathlib.Core.Path.{◌≡◌, sym, ap, ◌∙◌, subst}
+use mathlib.Core.List.{List}
+use Prim.Native.Nat.{ℕ, suc, ◌+◌, ◌-◌, ◌*◌, ◌<◌}
+use native.Mathlib.Omega.{arith}
+use lib.ListN.{length, get_or}
+use borrow.Author.Rules.{rules}
+use borrow.Author.Tests.{not-true, not-false}
+use Rattle.words.specs.Words.{words}
+use Rattle.slots_raw.specs.declared.Row.{Row}
+use Rattle.slots_raw.specs.Slots.{blank}
+use Rattle.slots.specs.Nodes.{rows_at}
+use Rattle.model.specs.Answer.{Tells}
+use Rattle.model.proofs.Answers.{told_no}
+use Rattle.model.proofs.Lists.{all_at}
+use Rattle.tree.specs.Bridge.{child_of}
+use Rattle.survey_node.specs.declared.Part.{Part}
+use Rattle.survey_node.specs.Parts.{last}
+use Rattle.survey_node.specs.Promises.{There, Head, Tail, Opened, Right, Checked, RowRight}
+use Rattle.survey_node.proofs.Rows.{right_rows, right_opened, right_tail}
+use Rattle.survey_node.proofs.Walks.{Going, going_none, checked_not, checked_end, turn_fault, turn_addable, turn_on}
+use Rattle.survey_node.proofs.Heads.{row_raw, head_count, tail_told}
+use Rattle.survey.proofs.walk.+check_interior_check_node.Given as goal
+
+abbrev pub decreases-check_interior : goal.decreases-check_interior
+decreases-check_interior l = 2 * l.height
+
+abbrev pub decreases-check_node : goal.decreases-check_node
+decreases-check_node l = 2 * l.height + 1
+
+abbrev pub invariant-check_interior-loop-i : goal.invariant-check_interior-loop-i
+invariant-check_interior-loop-i l =
+    Going l.st (words l.pool) (suc (l.height - 1)) (rows_at l.st (words l.pool) l.s) (last l.some l.key) (l.left - 1) l.i l.met l.part
+
+abbrev pub decreases-check_interior-loop-i : goal.decreases-check_interior-loop-i
+decreases-check_interior-loop-i l = l.n - l.i

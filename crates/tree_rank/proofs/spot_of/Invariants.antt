@@ -1,0 +1,17 @@
+-- `spot_of` meets its contract. The loop's invariant: entry r of the whole tree is entry `row` of the tree of height h in slot `leaf` (`Under`). Assumes
+-- nothing.
+use Prim.Native.Nat.{suc}
+use native.Mathlib.Omega.{arith}
+use Rattle.words.specs.Words.{words}
+use Rattle.slots.specs.Nodes.{nodes}
+use Rattle.model.specs.Tree.{entries}
+use Rattle.tree.specs.Bridge.{tree_at}
+use Rattle.tree_rank.proofs.Ranks.{Under, root_under, step_ready, step_down, arrive}
+use Rattle.tree_rank.proofs.spot_of.Given as goal
+
+abbrev pub invariant-loop-h : goal.invariant-loop-h
+invariant-loop-h l =
+    let W = words l.pool in Under l.st W (entries (suc l.height) (tree_at (nodes l.st W) l.height l.s)) l.r l.h l.leaf l.row
+
+abbrev pub decreases-loop-h : goal.decreases-loop-h
+decreases-loop-h l = l.h
