@@ -109,7 +109,7 @@ module _ {l : List ℕ} {k : Known} (w : Knows l k) where
               sound = rw same (sound_index l w.pool.sound i);
               spared = w.spared;
               lent = lent;
-              accepted = rw same (subst (λ (x : Index). refusal st c x ≡ 0) (tree_of_lem l i) (accepted given i c f passed).1);
+              accepted = subst (λ (x : Index). refusal st c x ≡ 0) (tree_of_lem l i ∙ sym same) (accepted given i c f passed).1;
             }
 
         pub store_accepted : ToBatch k.settings (words l) (record { height = k.height; spare = k.spare }) c

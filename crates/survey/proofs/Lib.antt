@@ -7,3 +7,4 @@ pub mod Apart
 pub mod Verdicts
 pub mod Decides
 pub mod Founds
+mod Steps

@@ -53,7 +53,7 @@ interior_change-node_change-r-requires t c = (
       a.run c.loop-op.i c.loop-op.changed c.loop-op.now c.child_for-j.result c.row_at-row.result c.child_of.result
       c.ceiling_for.result = record {
         round = round c.loop-op.invariant.0 (sym c.roams_on.ensures ∙ c.loop-op-test.true);
-        c = c.child_for-j.ensures;
+        sought = c.child_for-j.ensures;
         is = c.row_at-row.ensures;
         child = c.child_of.ensures;
         top = c.ceiling_for.ensures;
@@ -67,7 +67,7 @@ interior_change-settle_child-to-requires t c =
     a.run c.loop-op.i c.loop-op.changed c.loop-op.now c.child_for-j.result c.row_at-row.result c.child_of.result
     c.ceiling_for.result = record {
       round = round c.loop-op.invariant.0 (sym c.roams_on.ensures ∙ c.loop-op-test.true);
-      c = c.child_for-j.ensures;
+      sought = c.child_for-j.ensures;
       is = c.row_at-row.ensures;
       child = c.child_of.ensures;
       top = c.ceiling_for.ensures;
@@ -87,7 +87,7 @@ interior_change-loop-op-smaller t c =
           a.run c.loop-op.i c.loop-op.changed c.loop-op.now c.child_for-j.result c.row_at-row.result c.child_of.result
           c.ceiling_for.result = record {
             round = round c.loop-op.invariant.0 (sym c.roams_on.ensures ∙ c.loop-op-test.true);
-            c = c.child_for-j.ensures;
+            sought = c.child_for-j.ensures;
             is = c.row_at-row.ensures;
             child = c.child_of.ensures;
             top = c.ceiling_for.ensures;
@@ -101,7 +101,7 @@ interior_change-loop-op-preserved t c = (
       a.run c.loop-op.i c.loop-op.changed c.loop-op.now c.child_for-j.result c.row_at-row.result c.child_of.result
       c.ceiling_for.result = record {
         round = round c.loop-op.invariant.0 (sym c.roams_on.ensures ∙ c.loop-op-test.true);
-        c = c.child_for-j.ensures;
+        sought = c.child_for-j.ensures;
         is = c.row_at-row.ensures;
         child = c.child_of.ensures;
         top = c.ceiling_for.ensures;

@@ -10,19 +10,8 @@ use Rattle.frame_text.specs.declared.FrameEntry.{FrameEntry}
 use Rattle.frame_text.specs.Contents.{no_entry}
 use Rattle.index_c_fields.specs.Fields.{wide_of, narrow_of}
 use Rattle.index_c_given.proofs.Fills.{Filling, fill_start, fill_turn, fill_end}
+use Rattle.index_c_fields.proofs.Tellings.{at}
 use Rattle.index_c_fields.proofs.put_contents.Goals as goal
-
--- a field of the entry at place i
-abbrev at : (FrameEntry → ℕ) → List FrameEntry → ℕ → ℕ
-at g es i = g (get_or es i no_entry)
-
-record Telling (k : Kind) (es : List FrameEntry) (key high low alive gone : List ℕ) (i : ℕ) : Type 0 where
-  within : i ≤ 32
-  keys : Filling (at (λ (e : FrameEntry). e.key) es) 32 key i
-  wide : Filling (at (wide_of k) es) 32 high i
-  narrow : Filling (at (narrow_of k) es) 32 low i
-  live : Filling (at (λ (e : FrameEntry). e.totals.live) es) 32 alive i
-  dead : Filling (at (λ (e : FrameEntry). e.totals.dead) es) 32 gone i
 
 pub loop-i-init : goal.loop-i-init
 loop-i-init c =

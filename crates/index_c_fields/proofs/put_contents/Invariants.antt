@@ -10,6 +10,7 @@ use Rattle.frame_text.specs.declared.FrameEntry.{FrameEntry}
 use Rattle.frame_text.specs.Contents.{no_entry}
 use Rattle.index_c_fields.specs.Fields.{wide_of, narrow_of}
 use Rattle.index_c_given.proofs.Fills.{Filling, fill_start, fill_turn, fill_end}
+use Rattle.index_c_fields.proofs.Tellings.{Telling}
 use Rattle.index_c_fields.proofs.put_contents.Given as goal
 
 -- what is left to put, from place i on, makes each array its field of the entries

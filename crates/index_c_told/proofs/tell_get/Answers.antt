@@ -11,6 +11,5 @@ use Rattle.index_c_told.proofs.tell_get.Goals as goal
 pub returns-in-Done : goal.returns-in-Done
 returns-in-Done c =
     let a = c.args in
-    let g = c.answer-1.given in
     reports_done listed_numbers (got a.answer) c.in-Done.g a.told.now _ (ap got c.in-Done.is)
     (ap (λ (n : ℕ). c.in-Done.g.written ∷ n ∷ []) (flag_byte c.in-Done.g.more))

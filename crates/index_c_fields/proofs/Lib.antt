@@ -1,0 +1,2 @@
+-- `Tellings`: what the loop of `put_contents` keeps.
+mod Tellings
