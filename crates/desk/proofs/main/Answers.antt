@@ -12,5 +12,5 @@ use Rattle.desk.proofs.main.Goals as goal
 pub slice_bounds-write_all-end : goal.slice_bounds-write_all-end
 slice_bounds-write_all-end c = sym (length-take-le _ _ (let it : c.answer-n.result ≤ length c.answer-n.new.text = let s = c.loop-reads-test in
     let a = c.answer-n in
-    answer_inside (ordered (held (record { count = s.auto; bytes = s.line }))) s.pool (replicate 4096 0)
+    answer_inside (ordered (held (record { count = s.kept; bytes = s.line }))) s.pool (replicate 4096 0)
     (record { count = a.result; pool = a.new.pool; text = a.new.text }) a.ensures in it))

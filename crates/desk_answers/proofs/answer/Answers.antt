@@ -12,16 +12,6 @@ use native.Mathlib.Omega.{arith}
 use borrow.Author.Rules.{rules}
 use Rattle.desk_answers.proofs.answer.Goals as goal
 
--- what a line of the right length asks for is what was read of it
-as_read : (c : tie.After-read-order) (a : Outcome) →
-    let x = c.before.before.before.before.args in
-    let l = x.pool.now in
-    let t = x.text.now in
-    Answers (wanted (take x.n x.line.now)) l t a → Answers (ordered (held (record { count = x.n; bytes = x.line.now }))) l t a
-as_read c a =
-    let x = c.before.before.before.before.args in
-    subst (λ v. Answers v x.pool.now x.text.now a) (not_too_long x.line.now x.n c.before.before.before.if1.false)
-
 pub returns-then-n-gt-LONGEST : goal.returns-then-n-gt-LONGEST
 returns-then-n-gt-LONGEST c =
     let x = c.args in
@@ -57,7 +47,7 @@ returns-in-Set c =
     let r = c.read_order-read in
     let s = c.set_rows in
     let a : Outcome = record { count = s.result; pool = s.new.pool; text = s.new.text } in
-    as_read c a
+    subst (λ v. Answers v x.pool.now x.text.now a) (not_too_long x.line.now x.n c.if-n-gt-LONGEST.false)
     ((rows r.result (wanted (take x.n x.line.now)) r.ensures _ c.in-Set.is).answers
     x.pool.now x.text.now a s.ensures)
 
@@ -67,7 +57,7 @@ returns-in-Drop c =
     let r = c.read_order-read in
     let s = c.drop_keys in
     let a : Outcome = record { count = s.result; pool = s.new.pool; text = s.new.text } in
-    as_read c a
+    subst (λ v. Answers v x.pool.now x.text.now a) (not_too_long x.line.now x.n c.if-n-gt-LONGEST.false)
     ((keys_alone r.result (wanted (take x.n x.line.now)) r.ensures _ c.in-Drop.is).answers
     x.pool.now x.text.now a s.ensures)
 
@@ -77,7 +67,7 @@ returns-in-Dump c =
     let l = x.pool.now in
     let r = c.read_order-read in
     let a : Outcome = record { count = c.dump.result; pool = l; text = c.dump.new.text } in
-    as_read c a (dumps r.result (wanted (take x.n x.line.now)) r.ensures c.in-Dump.is l
+    subst (λ v. Answers v x.pool.now x.text.now a) (not_too_long x.line.now x.n c.if-n-gt-LONGEST.false) (dumps r.result (wanted (take x.n x.line.now)) r.ensures c.in-Dump.is l
     x.text.now a c.dump.ensures)
 
 pub returns-in-Malformed : goal.returns-in-Malformed
@@ -88,6 +78,6 @@ returns-in-Malformed c =
     let r = c.read_order-read in
     let s = c.say_refused-in-Malformed in
     let a : Outcome = record { count = s.result; pool = l; text = s.new.bytes } in
-    as_read c a
+    subst (λ v. Answers v x.pool.now x.text.now a) (not_too_long x.line.now x.n c.if-n-gt-LONGEST.false)
     (is_refused r.result (wanted (take x.n x.line.now)) r.ensures c.in-Malformed.is l t a
     (told (refusing l 15) s.result l t s.new.bytes s.ensures.end refl s.ensures.written))

@@ -25,7 +25,7 @@ returns c =
     let f = c.put.ensures in
     let few = few_digits a.n _ (search (rules, c.ranges)) d.len in
     let is : take c.decimal-k.result c.decimal-k.new.out ≡ decimal a.n =
-    d.1.1 ∙ fewest_decimal 20 a.n c.decimal-k.result few d.len in
+    d.digits ∙ fewest_decimal 20 a.n c.decimal-k.result few d.len in
     let long : length (decimal a.n) ≡ c.decimal-k.result = ap length (sym is) ∙ sym d.in_bounds.1 in
     let space : Put a.at (32 ∷ []) a.bytes.now c.put-behind.result c.put-behind.new.bytes =
     record { room = omega (arith, c.requires); ends = e.end; bytes = e.written } in

@@ -8,14 +8,6 @@ use Rattle.trial.proofs.put_word.Goals as goal
 pub put-requires : goal.put-requires
 put-requires c = omega (arith, length_words c.args.pool.now)
 
-pub shape_of-pool : goal.shape_of-pool
-shape_of-pool c = search rules
-
-pub returns-then-i-pool : goal.returns-then-i-pool
-returns-then-i-pool c =
-    let it = search rules in
-    record { words = it.0; same = it.1 }
-
 pub returns-else-i-pool : goal.returns-else-i-pool
 returns-else-i-pool c =
     let a = c.args in record { words = sym (set_out (words a.pool.now) a.i a.v (omega (arith, length_words a.pool.now))); same = same_refl a.pool.now }

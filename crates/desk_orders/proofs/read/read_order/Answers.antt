@@ -1,11 +1,11 @@
 -- `read_order` meets its contract: what a line asks for is told by its first word. Assumes nothing.
-use mathlib.Core.Logic.{⊎_elim}
 use Rattle.desk_orders.proofs.Asks.{begins_long, long, short, asks_set, asks_drop, asks_dump, asks_more, asks_none}
 use Rattle.desk_orders.specs.Orders.{set_word, drop_word, reading_of}
 use mathlib.Core.Path.{sym, ap, ◌∙◌}
 use native.Mathlib.Omega.{arith}
 use borrow.Author.Rules.{rules}
 use Rattle.desk_orders.proofs.read.read_order.Goals as goal
+use Rattle.desk_orders.proofs.read.read_order.Goals.{then-starts-3+else-line-eq4, else-starts-3}
 
 pub returns-then-line-gt-LONGEST : goal.returns-then-line-gt-LONGEST
 returns-then-line-gt-LONGEST c = let l = c.args.line.now in c.no_rows.ensures ∙ ap reading_of (sym (long l c.if-line-gt-LONGEST.true))
@@ -45,4 +45,7 @@ returns c =
     let nor = sym c.starts-2.ensures ∙ c.if-starts-2.false in
     let is = sym c.starts-3.ensures in
     c.no_rows-2.ensures ∙ ap reading_of (sym (short l c.if-line-gt-LONGEST.false
-    ∙ ⊎_elim (λ w. asks_more l no nor (is ∙ w.0.taken) w.1.left) (λ w. asks_none l no nor (is ∙ w.left)) c.if-starts-3.branch))
+    ∙ elim c.if-starts-3.branch [
+      | then-starts-3+else-line-eq4 w ↦ asks_more l no nor (is ∙ w.if-starts-3.true) w.if-line-eq4.false
+      | else-starts-3 w ↦ asks_none l no nor (is ∙ w.if-starts-3.false)
+    ]))

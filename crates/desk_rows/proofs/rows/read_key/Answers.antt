@@ -6,7 +6,7 @@ use borrow.Author.Rules.{rules}
 use Rattle.desk_rows.proofs.rows.read_key.Goals as goal
 
 pub returns-in-Bad : goal.returns-in-Bad
-returns-in-Bad c = key_bad _ _ c.requires (subst (NumberAt _ _ 16) c.in-Bad.is c.read_number.ensures)
+returns-in-Bad c = key_bad _ _ c.requires (subst (NumberAt c.args.line.now c.args.at 16) c.in-Bad.is c.read_number.ensures)
 
 pub returns-in-Good : goal.returns-in-Good
 returns-in-Good c = let a = c.args in

@@ -31,7 +31,7 @@ overflow_cast-result c = search (
 
 pub returns-in-Bad : goal.returns-in-Bad
 returns-in-Bad c =
-    triple_first _ _ c.requires (subst (NumberAt _ _ 16) c.in-Bad.is c.read_number.ensures)
+    triple_first _ _ c.requires (subst (NumberAt c.args.line.now c.args.at 16) c.in-Bad.is c.read_number.ensures)
 
 pub returns-in-Bad-next_number : goal.returns-in-Bad-next_number
 returns-in-Bad-next_number c =
