@@ -5,16 +5,20 @@
 // crate desk_promise (`ServesAnyText`). What `read` and `write` themselves do is outside the proof.
 #![tactic(auto)]
 
-use libc::{STDIN_FILENO, STDOUT_FILENO};
+use std::io::{Error, ErrorKind, Read, Stdin};
 
-fn main() {
+// The file descriptor of standard output.
+const STDOUT: i32 = 1;
+
+fn main(rt: HostRuntime) {
+    let mut input = rt.stdin();
     let mut pool = [0u8; 3392];
     let mut line = [0u8; 255];
     let mut kept: usize = 0;
     let mut reads = u64::MAX;
     desk_answers::open(&mut pool);
     while reads > 0 {
-        let s = serve_read(&mut pool, &mut line, kept);
+        let s = serve_read(&mut input, &mut pool, &mut line, kept);
         kept = s.kept;
         if !s.more {
             break;
@@ -25,7 +29,7 @@ fn main() {
     if kept > 0 {
         let mut text = [0u8; 4096];
         let n = desk_answers::answer(&mut pool, &line, kept, &mut text);
-        io::write_all(STDOUT_FILENO, &text[..n]);
+        io::write_all(STDOUT, &text[..n]);
     }
 }
 
@@ -37,22 +41,23 @@ struct Served {
 }
 
 // One read from standard input, and the answers to the lines that end in it.
-fn serve_read(pool: &mut [u8; 3392], line: &mut [u8; 255], kept: usize) -> Served {
+fn serve_read(
+    input: &mut Stdin,
+    pool: &mut [u8; 3392],
+    line: &mut [u8; 255],
+    kept: usize,
+) -> Served {
     let mut part = io::buffer();
-    let got = libc::read(STDIN_FILENO, &mut part);
-    if got < 0 {
-        return unread(kept);
+    match input.read(&mut part) {
+        Ok(0) => Served { more: false, kept },
+        Ok(n) => serve(pool, line, kept, &part[..n]),
+        Err(e) => unread(e, kept),
     }
-    if got == 0 {
-        return Served { more: false, kept };
-    }
-    let n = io::count(got, &part);
-    serve(pool, line, kept, &part[..n])
 }
 
 // A read that was interrupted is tried again. After one that failed the line is not known whole, and is not answered.
-fn unread(kept: usize) -> Served {
-    if os::errno() == libc::EINTR {
+fn unread(e: Error, kept: usize) -> Served {
+    if e.kind() == ErrorKind::Interrupted {
         return Served { more: true, kept };
     }
     Served {
@@ -69,7 +74,7 @@ fn serve(pool: &mut [u8; 3392], line: &mut [u8; 255], had: usize, part: &[u8]) -
     while from < part.len() {
         let t = desk_answers::take_part(pool, line, kept, &part[from..], &mut text);
         let n = t.count;
-        if !io::write_all(STDOUT_FILENO, &text[..n]) {
+        if !io::write_all(STDOUT, &text[..n]) {
             return Served {
                 more: false,
                 kept: 0,

@@ -8,7 +8,8 @@ ghost use Rattle.std.specs.Prelude.{◌≡◌, ◌+◌, ◌%◌, ◌^◌, slice_
 ghost use Rattle.words.specs.Words.{words, Same};
 ghost use Rattle.trial.specs.Numbers.{product};
 
-use libc::STDOUT_FILENO;
+// The file descriptor of standard output.
+const STDOUT: i32 = 1;
 
 // The 64-bit word `i` of a pool.
 pub fn word(pool: &[u8], i: usize) -> u64
@@ -81,11 +82,11 @@ pub fn times(a: usize, b: usize) -> usize
 
 // Writes a text. (What a program writes is in no contract: `io::write_all` promises nothing of it.)
 pub fn say(text: &[u8]) {
-    io::write_all(STDOUT_FILENO, text);
+    io::write_all(STDOUT, text);
 }
 
 // Writes a text, and a number behind it.
 pub fn tell(text: &[u8], n: u64) {
     say(text);
-    io::print_decimal(STDOUT_FILENO, n);
+    io::print_decimal(STDOUT, n);
 }

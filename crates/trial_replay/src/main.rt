@@ -15,7 +15,7 @@
 // the cases and the readings; what each of these wants is written out in oracle/src/cases.rs.
 #![tactic(auto)]
 
-use libc::STDIN_FILENO;
+use std::io::{Read, Stdin};
 use trial::{at, byte_at, plus, say, tell};
 use trial_calls::replay;
 use trial_lines::cases::Cases;
@@ -38,7 +38,8 @@ struct State {
     cases: Cases,
 }
 
-fn main() {
+fn main(rt: HostRuntime) {
+    let mut input = rt.stdin();
     let mut first = [0u8; 65536];
     let mut second = [0u8; 65536];
     let mut numbers = [0u64; 2048];
@@ -51,7 +52,14 @@ fn main() {
     };
     let mut turns = u64::MAX;
     while turns > 0 {
-        let t = read_turn(&mut first, &mut second, &mut numbers, &mut tally, s);
+        let t = read_turn(
+            &mut input,
+            &mut first,
+            &mut second,
+            &mut numbers,
+            &mut tally,
+            s,
+        );
         s = t.state;
         if !t.more {
             break;
@@ -76,6 +84,7 @@ struct Turn {
 
 // One read from standard input.
 fn read_turn(
+    input: &mut Stdin,
     first: &mut Pool,
     second: &mut Pool,
     numbers: &mut Numbers,
@@ -83,14 +92,13 @@ fn read_turn(
     s: State,
 ) -> Turn {
     let mut buf = io::buffer();
-    let got = libc::read(STDIN_FILENO, &mut buf);
-    if got <= 0 {
+    let n = input.read(&mut buf).unwrap_or(0);
+    if n == 0 {
         return Turn {
             more: false,
             state: s,
         };
     }
-    let n = io::count(got, &buf);
     Turn {
         more: true,
         state: feed(first, second, numbers, tally, s, &buf[..n]),
