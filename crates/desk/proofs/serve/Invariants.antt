@@ -1,11 +1,5 @@
--- `serve` meets its contract: each turn takes some of what was read, so the turns come to an end. Assumes nothing.
-use Rattle.desk_promise.proofs.Cuts.{turn_inside, turn_takes}
-use lib.Seq.{length-take-le}
-use lib.ListN.{length, drop, length-drop}
-use Prim.Native.Nat.{◌-◌, ◌≤◌, ◌<◌}
-use mathlib.Core.Path.{sym}
-use native.Mathlib.Omega.{arith}
-use borrow.Author.Rules.{rules}
+-- A turn takes some of what was read, so the turns come to an end.
+use Rattle.std.proofs.Common.{length, ◌-◌, ◌≤◌}
 use Rattle.desk.proofs.serve.Given as goal
 
 abbrev pub invariant-loop-from : goal.invariant-loop-from
