@@ -1,11 +1,10 @@
 -- `batch` meets its contract. The loop's invariant: the model's calls of the root from here are its calls from the start (`Running`). Assumes nothing.
-use mathlib.Core.Path.{◌≡◌, refl, ◌∙◌}
+use mathlib.Core.Path.{◌≡◌}
 use Prim.Native.Nat.{◌-◌}
-use native.Mathlib.Omega.{arith}
 use lib.ListN.{length}
 use Rattle.words.specs.Words.{words}
 use Rattle.model.specs.Refuse.{call}
-use Rattle.batch.proofs.Rounds.{Running, start, keeps, next, ask, returned, further, again, finish}
+use Rattle.batch.proofs.Rounds.{Running, next}
 use Rattle.batch.proofs.batch.Given as goal
 
 abbrev pub invariant-loop-run : goal.invariant-loop-run

@@ -1,6 +1,5 @@
 -- `settle_root` meets its contract: of each result the root is left as the model leaves it (`proofs/Settled`). Assumes nothing.
 use mathlib.Core.Path.{refl}
-use borrow.Author.Rules.{rules}
 use Rattle.batch_root.proofs.Indexes.{keeps_root}
 use Rattle.batch.proofs.Settled.{to_halve, split_settled, gone_settled, stays_settled}
 use Rattle.batch.proofs.settle_root.Goals as goal

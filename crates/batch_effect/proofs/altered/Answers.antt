@@ -1,7 +1,6 @@
 -- `altered` meets its contract: case by case. Assumes nothing.
 use mathlib.Core.Path.{sym}
 use mathlib.Core.Bool.{or-false, or-true}
-use borrow.Author.Rules.{rules}
 use Rattle.batch_effect.proofs.altered.Goals as goal
 
 pub returns-in-Leave : goal.returns-in-Leave

@@ -1,6 +1,5 @@
 -- `counted` meets its contract: case by case. Assumes nothing.
 use native.Mathlib.Numerals.{add-one}
-use borrow.Author.Rules.{rules}
 use Rattle.batch_effect.proofs.counted.Goals as goal
 
 pub returns-in-Leave : goal.returns-in-Leave

@@ -1,6 +1,5 @@
 -- `decide` meets its contract: an action that is always wished, or one that is wished where its expectation is met. Assumes nothing.
 use mathlib.Core.Path.{sym, ◌∙◌}
-use borrow.Author.Rules.{rules}
 use Rattle.batch_effect.proofs.decide.Goals as goal
 
 pub returns-in-Always : goal.returns-in-Always

@@ -1,5 +1,4 @@
 -- `effect_of` meets its contract: case by case. Assumes nothing.
-use borrow.Author.Rules.{rules}
 use Rattle.batch_effect.proofs.effect_of.Goals as goal
 
 pub returns-in-Absent : goal.returns-in-Absent

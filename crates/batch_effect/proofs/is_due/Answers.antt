@@ -1,6 +1,5 @@
 -- `is_due` meets its contract: each of its two tests is one of `is_due`. Assumes nothing.
 use borrow.Author.Tests.{lt-ltb, le-ltb}
-use borrow.Author.Rules.{rules}
 use Rattle.batch_effect.proofs.is_due.Goals as goal
 
 pub returns-then-next-keys : goal.returns-then-next-keys

@@ -1,6 +1,5 @@
 -- `meets` meets its contract: case by case, and two references by `same_reference`. Assumes nothing.
 use mathlib.Core.Path.{◌∙◌}
-use borrow.Author.Rules.{rules}
 use Rattle.batch_effect.proofs.meets.Goals as goal
 
 pub returns-in-Holds-e : goal.returns-in-Holds-e

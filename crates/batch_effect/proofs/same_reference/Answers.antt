@@ -1,6 +1,5 @@
 -- `same_reference` meets its contract: by its two tests. Assumes nothing.
 use borrow.Author.Tests.{eq-eqb, ne_eqb}
-use borrow.Author.Rules.{rules}
 use Rattle.batch_effect.proofs.same_reference.Goals as goal
 
 pub returns-then-a-place : goal.returns-then-a-place

@@ -1,6 +1,5 @@
 -- `absorb` meets its contract: an only child stays, another is joined (`Joins`). Assumes nothing.
 use mathlib.Core.Path.{refl, sym, ◌∙◌}
-use borrow.Author.Rules.{rules}
 use Rattle.batch_share.proofs.Places.{parent_in}
 use Rattle.batch_join.proofs.Joins.{alone_ended, absorb_asks, absorbed}
 use Rattle.batch_join.proofs.absorb.Goals as goal

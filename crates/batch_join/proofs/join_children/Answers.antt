@@ -1,6 +1,5 @@
 -- `join_children` meets its contract: what fits into one node is merged (`merged_rowed`), and what does not is levelled (`even_rowed`). Assumes nothing.
 use native.Mathlib.Omega.{arith}
-use borrow.Author.Rules.{rules}
 use Rattle.batch_share.proofs.Turns.{beside_few, sits_lower, sits_upper}
 use Rattle.batch_join.proofs.Joins.{merged_rowed, even_rowed}
 use Rattle.batch_join.proofs.join_children.Goals as goal

@@ -1,5 +1,4 @@
 -- `level` meets its contract: a move of the right amount, either way, leaves the half in each. Assumes nothing.
-use borrow.Author.Rules.{rules}
 use Rattle.words.specs.Words.{words}
 use Rattle.slots.specs.Nodes.{nodes}
 use Rattle.slots.proofs.Nodes.{become}

@@ -1,6 +1,5 @@
 -- `merge` meets its contract: each step does to the pool what the model's join does to the two (`Merges`). Assumes nothing.
 use native.Mathlib.Omega.{arith}
-use borrow.Author.Rules.{rules}
 use Rattle.tree_spare.proofs.Spares.{spared_few}
 use Rattle.batch_share.proofs.Places.{sits_row}
 use Rattle.batch_share.proofs.Turns.{beside_few, sits_lower, sits_upper, lower_named, upper_named}

@@ -1,5 +1,4 @@
 -- `take_out` meets its contract: the child's slot is released and its row taken out, and both are what the model leaves (`Outs`). Assumes nothing.
-use borrow.Author.Rules.{rules}
 use Rattle.tree_spare.proofs.Spares.{spared_few}
 use Rattle.batch_share.proofs.Places.{sits_row}
 use Rattle.batch_share.proofs.Focuses.{poise_focus, focus_sits, child_named}

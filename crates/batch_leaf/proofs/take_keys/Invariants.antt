@@ -1,12 +1,11 @@
 -- `take_keys` meets its contract. The loop's invariant (`Turn`): the model's leaf, going on from the rows, the key and the counts of now, ends as it
 -- does from those at first. Where the test fails the model stops too (`turn_done`). Assumes nothing.
-use mathlib.Core.Path.{◌≡◌, refl, sym, ◌∙◌}
+use mathlib.Core.Path.{◌≡◌}
 use Prim.Native.Nat.{◌-◌}
-use native.Mathlib.Omega.{arith}
 use lib.ListN.{length}
 use Rattle.words.specs.Words.{words}
 use Rattle.model.specs.Refuse.{call}
-use Rattle.batch_leaf.proofs.Turns.{Turn, turn_start, turn_within, turn_leaf, turn_lent, turn_on, turn_done}
+use Rattle.batch_leaf.proofs.Turns.{Turn}
 use Rattle.batch_leaf.proofs.take_keys.Given as goal
 
 abbrev pub invariant-loop-st : goal.invariant-loop-st

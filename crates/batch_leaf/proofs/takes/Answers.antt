@@ -1,6 +1,5 @@
 -- `takes` meets its contract: each of its two tests is one of `goes_on`. Assumes nothing.
 use mathlib.Core.Path.{sym, ◌∙◌}
-use borrow.Author.Rules.{rules}
 use Rattle.batch_leaf.proofs.takes.Goals as goal
 
 pub returns-then-is_due : goal.returns-then-is_due

@@ -1,7 +1,6 @@
 -- `wish_at` meets its contract: operation by operation. Only a SetEach reads, and for it both lists are long enough (`lent_each`). Assumes nothing.
 use Prim.Native.Nat.{◌+◌}
 use native.Mathlib.Omega.{arith}
-use borrow.Author.Rules.{rules}
 use Rattle.batch_leaf.proofs.Tasks.{lent_each}
 use Rattle.batch_leaf.proofs.wish_at.Goals as goal
 

@@ -1,14 +1,11 @@
 -- The cycle of node change and interior change. The loop of an interior (`Roaming`): the model's walk, going on from the child, the key and the counts of
 -- now, ends as it does from the first child. The height falls round the cycle. Assumes nothing.
-use Prim.Native.Nat.{ℕ, suc, ◌+◌, ◌-◌, ◌*◌, ◌<◌}
-use mathlib.Core.Path.{◌≡◌, refl, sym, ◌∙◌, subst}
-use native.Mathlib.Omega.{arith}
+use Prim.Native.Nat.{◌+◌, ◌-◌, ◌*◌}
+use mathlib.Core.Path.{◌≡◌}
 use lib.ListN.{length}
 use Rattle.words.specs.Words.{words}
 use Rattle.model.specs.Refuse.{call}
-use Rattle.batch_node.specs.Promises.{ToChange, NodeChanged}
-use Rattle.batch_node.proofs.Rounds.{Roaming, Sent, round_start, round_at, round, next_in, child_in, child_call, pending, round_again, round_less, round_end}
-use borrow.Author.Rules.{rules}
+use Rattle.batch_node.proofs.Rounds.{Roaming}
 use Rattle.batch_node.proofs.+interior_change_node_change.Given as goal
 
 -- the height falls round the cycle, from an interior to its children

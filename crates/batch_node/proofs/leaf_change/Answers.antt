@@ -3,7 +3,6 @@ use Rattle.tree.specs.Bridge.{unused_of}
 use Rattle.slots.specs.Nodes.{nodes}
 use Rattle.words.specs.Words.{words}
 use Rattle.batch_node.proofs.Leaves.{leaf_asked, leaf_came}
-use borrow.Author.Rules.{rules}
 use Rattle.batch_node.proofs.leaf_change.Goals as goal
 
 pub take_keys-r-requires : goal.take_keys-r-requires

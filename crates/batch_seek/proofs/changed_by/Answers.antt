@@ -1,7 +1,6 @@
 -- `changed_by` meets its contract: result by result; all but the first are a change. Assumes nothing.
 use mathlib.Core.Path.{◌∙◌}
 use Rattle.batch_seek.proofs.Seeks.{or_false, or_true, or_same}
-use borrow.Author.Rules.{rules}
 use Rattle.batch_seek.proofs.changed_by.Goals as goal
 
 pub returns-in-Unchanged : goal.returns-in-Unchanged

@@ -4,7 +4,6 @@ use mathlib.Core.Path.{sym, ap, ◌∙◌}
 use mathlib.Core.Bool.{Bool}
 use Rattle.model.specs.Change.{result_of}
 use Rattle.batch_seek.proofs.Seeks.{is_changed, is_absorb, is_split}
-use borrow.Author.Rules.{rules}
 use Rattle.batch_seek.proofs.result_of.Goals as goal
 
 pub returns-then-n-st : goal.returns-then-n-st

@@ -1,6 +1,5 @@
 -- `roams_on` meets its contract: it is asked in turn whether the next key is due, and whether there is a child. Assumes nothing.
 use mathlib.Core.Path.{sym, ◌∙◌}
-use borrow.Author.Rules.{rules}
 use Rattle.batch_seek.proofs.roams_on.Goals as goal
 
 pub returns-then-is_due : goal.returns-then-is_due

@@ -1,7 +1,6 @@
 -- `settle_child` meets its contract: an unchanged child stays as it is; for another the row is made new, and each result goes on from there (`Arms`).
 -- Assumes nothing.
 use mathlib.Core.Path.{refl}
-use borrow.Author.Rules.{rules}
 use Rattle.model.specs.declared.ChangeResult.TheVariants.{Remove, Absorb, Split, Changed}
 use Rattle.batch_settle.proofs.Arms.{arm_rests, start_renews, arm_asks, arm_stays, arm_ends}
 use Rattle.batch_settle.proofs.settle_child.Goals as goal

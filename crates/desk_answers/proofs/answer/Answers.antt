@@ -3,13 +3,11 @@ use Rattle.desk_pool.proofs.Tells.{told}
 use Rattle.desk_answers.proofs.Asked.{too_long, not_too_long, rows, keys_alone, dumps, is_refused}
 use Rattle.desk_promise.specs.Replies.{refusing}
 use Rattle.desk_promise.specs.Promise.{Outcome, Answers}
-use Rattle.desk_lines.specs.Parts.{held}
-use Rattle.desk_orders.specs.Orders.{wanted, ordered}
+use Rattle.desk_orders.specs.Orders.{wanted}
 use lib.Seq.{length-take-le}
 use lib.ListN.{take}
 use mathlib.Core.Path.{refl, sym, subst}
 use native.Mathlib.Omega.{arith}
-use borrow.Author.Rules.{rules}
 use Rattle.desk_answers.proofs.answer.Goals as goal
 
 pub returns-then-n-gt-LONGEST : goal.returns-then-n-gt-LONGEST

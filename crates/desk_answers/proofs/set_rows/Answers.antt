@@ -1,7 +1,6 @@
 -- `set_rows` meets its contract: the first rows of what was read are the batch. Assumes nothing.
 use lib.Seq.{length-take-le}
 use mathlib.Core.Path.{sym}
-use borrow.Author.Rules.{rules}
 use Rattle.desk_answers.proofs.set_rows.Goals as goal
 
 pub slice_bounds-change-end : goal.slice_bounds-change-end

@@ -1,7 +1,6 @@
 -- `change` meets its contract: a batch, and what it answered as text. Assumes nothing.
 use Rattle.model.specs.Refuse.{Call}
 use Rattle.desk_pool.proofs.Tells.{batch_done, batch_refused}
-use borrow.Author.Rules.{rules}
 use Rattle.desk_pool.proofs.change.Goals as goal
 
 pub returns-in-Done : goal.returns-in-Done

@@ -3,7 +3,6 @@ use Rattle.index_promise.proofs.Unique.{by_sound}
 use Rattle.model.specs.Sound.{rows_for}
 use Rattle.desk_promise.proofs.Sessions.{desk_limits}
 use mathlib.Core.Path.{ap}
-use borrow.Author.Rules.{rules}
 use Rattle.desk_pool.proofs.open.Goals as goal
 
 pub returns : goal.returns

@@ -2,11 +2,10 @@
 use lib.ListN.{length-set, length}
 use Rattle.desk_text.proofs.Overs.{over_paste}
 use lib.Seq.{paste, paste-zero, paste-suc}
-use Prim.Native.Nat.{◌-◌, ◌≤◌}
+use Prim.Native.Nat.{◌-◌}
 use mathlib.Core.Path.{◌≡◌, refl, ap, ◌∙◌}
 use native.Mathlib.Numerals.{add-one}
 use native.Mathlib.Omega.{arith}
-use borrow.Author.Rules.{rules}
 use Rattle.desk_text.proofs.put.Goals as goal
 
 pub loop-i-init : goal.loop-i-init

@@ -1,12 +1,8 @@
 -- `put` meets its contract. The loop's invariant: the first bytes of the text are copied. Assumes nothing.
-use lib.ListN.{length-set, length}
-use Rattle.desk_text.proofs.Overs.{over_paste}
-use lib.Seq.{paste, paste-zero, paste-suc}
+use lib.ListN.{length}
+use lib.Seq.{paste}
 use Prim.Native.Nat.{◌-◌, ◌≤◌}
-use mathlib.Core.Path.{◌≡◌, refl, ap, ◌∙◌}
-use native.Mathlib.Numerals.{add-one}
-use native.Mathlib.Omega.{arith}
-use borrow.Author.Rules.{rules}
+use mathlib.Core.Path.{◌≡◌}
 use Rattle.desk_text.proofs.put.Given as goal
 
 abbrev pub invariant-loop-i : goal.invariant-loop-i

@@ -2,7 +2,6 @@
 use Rattle.desk_text.proofs.Overs.{Put, behind, put_length}
 use Rattle.desk_text.specs.Texts.{refused_word, line_feed, spaced}
 use native.Mathlib.Omega.{arith}
-use borrow.Author.Rules.{rules}
 use Rattle.desk_text.proofs.say_refused.Goals as goal
 
 pub returns : goal.returns

@@ -1,10 +1,9 @@
 -- `entries_in` meets its contract. The loop's invariant: the first i places are filled, and the others hold nothing. Assumes nothing.
 use mathlib.Core.List.{List, [], ◌∷◌, ◌++◌}
 use mathlib.Core.Path.{◌≡◌, sym, ap, ◌∙◌}
-use Prim.Native.Nat.{ℕ, ◌+◌, ◌-◌, ◌≤◌}
+use Prim.Native.Nat.{ℕ, ◌+◌, ◌-◌}
 use native.Mathlib.Omega.{arith}
 use lib.ListN.{length, drop, set, replicate}
-use borrow.Author.Rules.{rules}
 use Rattle.frame_text.specs.Entries.{entries_in}
 use Rattle.frame_text.specs.Digits.{pairs}
 use Rattle.frame_text.specs.Contents.{padded}

@@ -2,7 +2,6 @@
 use mathlib.Core.Path.{ap}
 use Prim.Native.Nat.{◌+◌}
 use native.Mathlib.Omega.{arith}
-use borrow.Author.Rules.{rules}
 use Rattle.frame_text.specs.Digits.{pairs}
 use Rattle.frame_text.specs.Entries.{start_of}
 use Rattle.frame_text.specs.declared.Kind.TheVariants.{Leaf, Interior}

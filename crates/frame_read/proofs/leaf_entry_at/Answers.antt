@@ -1,5 +1,4 @@
 -- `leaf_entry_at` meets its contract: each number stands where the definition reads it. Assumes nothing.
-use borrow.Author.Rules.{rules}
 use Rattle.frame_text.specs.Digits.{pairs}
 use Rattle.frame_text.proofs.Coded.{field_drop}
 use Rattle.frame_read.proofs.leaf_entry_at.Goals as goal

@@ -5,7 +5,6 @@ use Prim.Native.Nat.{◌*◌, ◌/◌}
 use native.Mathlib.Omega.{arith}
 use lib.ListN.{length}
 use borrow.Author.Tests.{not-true, not-false}
-use borrow.Author.Rules.{rules}
 use Rattle.frame_text.specs.Digits.{is_hex}
 use Rattle.frame_text.proofs.Told.{read_as, line_empty, line_other, line_leaf, line_interior, line_unknown}
 use Rattle.frame_text.proofs.Spelt.{hex_even}

@@ -4,7 +4,6 @@ use Prim.Native.Nat.{◌-◌, ◌/◌, ◌%◌}
 use native.Mathlib.Omega.{arith}
 use lib.ListN.{length, drop}
 use borrow.Author.Tests.{not-true, not-false}
-use borrow.Author.Rules.{rules}
 use Rattle.model.specs.Frame.{keys_of, rising}
 use Rattle.frame_text.specs.declared.Contents.{Contents}
 use Rattle.frame_text.specs.Digits.{pairs}

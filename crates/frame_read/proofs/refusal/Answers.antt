@@ -1,7 +1,6 @@
 -- `refusal` meets its contract: every place is zero. Assumes nothing.
 use mathlib.Core.Path.{refl, ap}
 use lib.ListN.{replicate}
-use borrow.Author.Rules.{rules}
 use Rattle.frame_text.specs.declared.FrameEntry.{FrameEntry}
 use Rattle.frame_text.specs.declared.Kind.TheVariants.{Leaf}
 use Rattle.frame_read.proofs.refusal.Goals as goal

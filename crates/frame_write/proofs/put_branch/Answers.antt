@@ -2,7 +2,6 @@
 use mathlib.Core.List.{◌++◌}
 use mathlib.Core.Path.{refl}
 use native.Mathlib.Omega.{arith}
-use borrow.Author.Rules.{rules}
 use Rattle.model.specs.Frame.{bytes}
 use Rattle.frame_text.proofs.Lines.{then_on}
 use Rattle.frame_write.proofs.put_branch.Goals as goal

@@ -1,9 +1,7 @@
 -- `put_frame` meets its contract. The loop's invariant: behind the header stand the first i entries. Assumes nothing.
 use mathlib.Core.Path.{◌≡◌, refl, ap, ◌∙◌}
-use Prim.Native.Nat.{ℕ, ◌+◌, ◌-◌, ◌*◌, ◌≤◌}
+use Prim.Native.Nat.{ℕ, ◌+◌, ◌-◌, ◌*◌}
 use native.Mathlib.Omega.{arith}
-use lib.ListN.{length}
-use borrow.Author.Rules.{rules}
 use Rattle.model.specs.Frame.{bytes}
 use Rattle.frame_text.specs.Entries.{width_of, header_of}
 use Rattle.frame_text.specs.Digits.{spelled}

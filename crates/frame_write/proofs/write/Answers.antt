@@ -4,7 +4,6 @@ use mathlib.Core.Path.{sym, ◌∙◌, subst}
 use Prim.Native.Nat.{ℕ}
 use lib.ListN.{length}
 use borrow.Author.Tests.{not-true, not-false}
-use borrow.Author.Rules.{rules}
 use Rattle.model.specs.Answer.{Answer}
 use Rattle.frame_text.specs.Answers.{Writes}
 use Rattle.frame_text.proofs.Told.{write_many, write_fall, write_on}

@@ -1,6 +1,5 @@
 -- `batch` meets its contract: where the tree was not found the call refuses (`batch_refused`), and where it was it is known (`found_known`), and what is
 -- stored in it keeps the promise (`found_stored`). Assumes nothing.
-use borrow.Author.Rules.{rules}
 use Rattle.model.specs.Refuse.{call}
 use Rattle.index.proofs.Found.{batch_refused, found_known, found_stored}
 use Rattle.index.proofs.batch.Goals as goal

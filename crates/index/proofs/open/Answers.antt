@@ -1,6 +1,5 @@
 -- `open` meets its contract: what the pool's opening has done is what the call promises, whether it was done (`opened`) or refused (`not_opened`).
 -- Assumes nothing.
-use borrow.Author.Rules.{rules}
 use Rattle.index.proofs.Opens.{opened, not_opened}
 use Rattle.index.proofs.open.Goals as goal
 

@@ -1,5 +1,4 @@
 -- `alarm_compare` meets its contract: expectation and action are those of the numbers and flags, so the batch is of that operation. Assumes nothing.
-use borrow.Author.Rules.{rules}
 use Rattle.index_c.proofs.alarm_compare.Goals as goal
 
 pub returns : goal.returns

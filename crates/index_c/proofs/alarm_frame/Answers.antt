@@ -1,5 +1,4 @@
 -- `alarm_frame` meets its contract: the answer of the frame keeps the promise, and it is told. Assumes nothing.
-use borrow.Author.Rules.{rules}
 use Rattle.index_c.proofs.alarm_frame.Goals as goal
 
 pub returns : goal.returns

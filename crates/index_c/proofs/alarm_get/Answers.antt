@@ -1,5 +1,4 @@
 -- `alarm_get` meets its contract: the answer of the get keeps the promise, and it is told. Assumes nothing.
-use borrow.Author.Rules.{rules}
 use Rattle.index_c.proofs.alarm_get.Goals as goal
 
 pub returns : goal.returns

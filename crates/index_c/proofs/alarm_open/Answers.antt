@@ -1,5 +1,4 @@
 -- `alarm_open` meets its contract: the settings are those of the three numbers, so the answer of opening is of them, and its number is told. Assumes nothing.
-use borrow.Author.Rules.{rules}
 use Rattle.index_c.proofs.alarm_open.Goals as goal
 
 pub returns : goal.returns

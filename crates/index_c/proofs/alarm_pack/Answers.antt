@@ -1,5 +1,4 @@
 -- `alarm_pack` meets its contract: the answer of packing keeps its promise, and its number is told. Assumes nothing.
-use borrow.Author.Rules.{rules}
 use Rattle.index_c.proofs.alarm_pack.Goals as goal
 
 pub returns : goal.returns

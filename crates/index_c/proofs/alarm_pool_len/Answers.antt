@@ -1,6 +1,5 @@
 -- `alarm_pool_len` meets its contract: the settings are those of the three numbers; whether they are in the limits decides between 0 and the length
 -- (`len_wrong`, `len_right`). Assumes nothing.
-use borrow.Author.Rules.{rules}
 use Rattle.index_c.proofs.Outcomes.{len_wrong, len_limits, len_right}
 use Rattle.index_c.proofs.alarm_pool_len.Goals as goal
 

@@ -1,6 +1,5 @@
 -- `alarm_portion` meets its contract: the start and the end are those of the numbers and flags, so the portion is of that range, and its answer is told.
 -- Assumes nothing.
-use borrow.Author.Rules.{rules}
 use Rattle.index_c.proofs.alarm_portion.Goals as goal
 
 pub returns : goal.returns

@@ -1,5 +1,4 @@
 -- `alarm_read_frame` meets its contract: what was read, put into the buffers, is the frame of the answer (`read_reported`). Assumes nothing.
-use borrow.Author.Rules.{rules}
 use Rattle.index_c.proofs.Outcomes.{read_reported}
 use Rattle.index_c.proofs.alarm_read_frame.Goals as goal
 

@@ -1,6 +1,5 @@
 -- `alarm_scan` meets its contract: the bounds and the direction are those of the numbers and flags, so the scan is of that request, and its answer is
 -- told. Assumes nothing.
-use borrow.Author.Rules.{rules}
 use Rattle.index_c.proofs.alarm_scan.Goals as goal
 
 pub returns : goal.returns

@@ -1,5 +1,4 @@
 -- `alarm_totals` meets its contract: the answer of the totals keeps the promise, and it is told. Assumes nothing.
-use borrow.Author.Rules.{rules}
 use Rattle.index_c.proofs.alarm_totals.Goals as goal
 
 pub returns : goal.returns

@@ -1,6 +1,5 @@
 -- `alarm_write_leaf` meets its contract: the contents are those of the lent lists, so the line that is written is their frame's, and its answer is
 -- told. Assumes nothing.
-use borrow.Author.Rules.{rules}
 use Rattle.index_c.proofs.alarm_write_leaf.Goals as goal
 
 pub returns : goal.returns

@@ -1,5 +1,4 @@
 -- `batch` meets its contract: the answer of the batch keeps the promise, and it is told. Assumes nothing.
-use borrow.Author.Rules.{rules}
 use Rattle.index_c.proofs.batch.Goals as goal
 
 pub returns : goal.returns

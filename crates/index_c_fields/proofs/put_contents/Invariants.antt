@@ -1,15 +1,5 @@
 -- `put_contents` meets its contract. The loop's invariant: what is left to put makes each array its field of the 32 places. Assumes nothing.
-use mathlib.Core.Path.{◌≡◌, refl}
-use mathlib.Core.List.{List, [], ◌∷◌}
-use Prim.Native.Nat.{ℕ, ◌-◌, ◌≤◌}
-use native.Mathlib.Omega.{arith}
-use lib.ListN.{length, get_or, replicate, length-replicate}
-use borrow.Author.Rules.{rules}
-use Rattle.frame_text.specs.declared.Kind.{Kind}
-use Rattle.frame_text.specs.declared.FrameEntry.{FrameEntry}
-use Rattle.frame_text.specs.Contents.{no_entry}
-use Rattle.index_c_fields.specs.Fields.{wide_of, narrow_of}
-use Rattle.index_c_given.proofs.Fills.{Filling, fill_start, fill_turn, fill_end}
+use Prim.Native.Nat.{◌-◌}
 use Rattle.index_c_fields.proofs.Tellings.{Telling}
 use Rattle.index_c_fields.proofs.put_contents.Given as goal
 

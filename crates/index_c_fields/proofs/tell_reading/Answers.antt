@@ -1,6 +1,5 @@
 -- `tell_reading` meets its contract: what was read is put into the buffers, and of a line that was not its refusal's number is told. Assumes nothing.
 use mathlib.Core.Path.{ap}
-use borrow.Author.Rules.{rules}
 use Rattle.frame_text.specs.declared.ReadAnswer.{ReadAnswer}
 use Rattle.index_c_fields.specs.Fields.{fields_of, contents_told}
 use Rattle.index_c_told.proofs.Reported.{reports_done, reports_refused}

@@ -1,7 +1,6 @@
 -- `action` meets its contract: each arm answers what the model makes of its flag. Assumes nothing.
 use mathlib.Core.Path.{sym, ap}
 use mathlib.Core.Bool.{Bool}
-use borrow.Author.Rules.{rules}
 use Rattle.index_c_given.specs.Given.{action_for}
 use Rattle.index_c_given.proofs.action.Goals as goal
 

@@ -1,7 +1,6 @@
 -- `expectation` meets its contract: each arm answers what the model makes of its flag. Assumes nothing.
 use mathlib.Core.Path.{sym, ap}
 use mathlib.Core.Bool.{Bool}
-use borrow.Author.Rules.{rules}
 use Rattle.index_c_given.specs.Given.{expectation_for}
 use Rattle.index_c_given.proofs.expectation.Goals as goal
 

@@ -1,13 +1,12 @@
 -- `interior` meets its contract. The loop's invariant: what is left to put makes the entries those of the 32 places. Assumes nothing.
 use mathlib.Core.List.{List}
-use Prim.Native.Nat.{ℕ, ◌-◌, ◌≤◌}
+use Prim.Native.Nat.{◌-◌}
 use native.Mathlib.Omega.{arith}
 use lib.ListN.{replicate, length-replicate}
-use borrow.Author.Rules.{rules}
 use Rattle.frame_text.specs.declared.Kind.TheVariants.{Interior}
 use Rattle.frame_text.specs.declared.FrameEntry.{FrameEntry}
 use Rattle.index_c_given.specs.Given.{branch_at}
-use Rattle.index_c_given.proofs.Fills.{Filling, fill_start, fill_turn, fill_end}
+use Rattle.index_c_given.proofs.Fills.{fill_start, fill_turn, fill_end}
 use Rattle.index_c_given.proofs.interior.Goals as goal
 
 pub loop-i-init : goal.loop-i-init

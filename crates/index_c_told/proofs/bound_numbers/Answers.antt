@@ -1,6 +1,5 @@
 -- `bound_numbers` meets its contract: each arm has the numbers of its bound. Assumes nothing.
 use mathlib.Core.Path.{sym, ap}
-use borrow.Author.Rules.{rules}
 use Rattle.index_c_told.specs.Told.{bound_numbers}
 use Rattle.index_c_told.proofs.bound_numbers.Goals as goal
 

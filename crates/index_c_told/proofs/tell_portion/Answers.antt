@@ -1,7 +1,6 @@
 -- `tell_portion` meets its contract: the values that were done are the numbers that are told, with the start of the next portion, and a refusal's number is
 -- told alone. Assumes nothing.
 use mathlib.Core.Path.{refl, ap}
-use borrow.Author.Rules.{rules}
 use Rattle.index_promise.specs.Promise.{portioned}
 use Rattle.index_c_told.specs.Told.{buffers_after}
 use Rattle.index_c_told.proofs.Reported.{reports_done, reports_refused, buffers_told}

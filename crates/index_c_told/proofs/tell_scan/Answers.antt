@@ -2,7 +2,6 @@
 use mathlib.Core.Path.{ap}
 use mathlib.Core.List.{[], ◌∷◌}
 use Prim.Native.Nat.{ℕ}
-use borrow.Author.Rules.{rules}
 use Rattle.index_promise.specs.Promise.{scanned}
 use Rattle.index_c_told.specs.Told.{scanned_numbers}
 use Rattle.index_c_told.proofs.Reported.{reports_done, flag_byte}

@@ -1,7 +1,6 @@
 -- `tell_start` meets its contract: where something was shown the numbers are those of the next start (`start_moves`), and else they stay (`start_stays`).
 -- Assumes nothing.
 use mathlib.Core.Path.{◌∙◌}
-use borrow.Author.Rules.{rules}
 use Rattle.index_c_told.proofs.Reported.{start_stays, start_moves}
 use Rattle.index_c_told.proofs.tell_start.Goals as goal
 

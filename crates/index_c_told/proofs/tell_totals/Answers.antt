@@ -1,6 +1,5 @@
 -- `tell_totals` meets its contract: the values that were done are the numbers that are told, and a refusal's number is told alone. Assumes nothing.
 use mathlib.Core.Path.{refl, ap}
-use borrow.Author.Rules.{rules}
 use Rattle.index_promise.specs.Promise.{totalled}
 use Rattle.index_c_told.specs.Told.{total_numbers}
 use Rattle.index_c_told.proofs.Reported.{reports_done}

@@ -1,6 +1,5 @@
 -- `store` meets its contract: the refusal is the model's (`store_refused`); where there is none the batch may begin (`store_accepted`), and what it has done
 -- keeps the promise (`store_done`) and is known (`store_known`). Assumes nothing.
-use borrow.Author.Rules.{rules}
 use Rattle.model.specs.Refuse.{Call, call}
 use Rattle.model.specs.Demands.{Lent}
 use Rattle.index_known.proofs.Lends.{lends}

@@ -1,6 +1,5 @@
 -- `frame` meets its contract: where the tree was not found the call refuses (`frame_refused`), and where it was the line is what the model's node
 -- writes (`frame_told_lem`). Assumes nothing.
-use borrow.Author.Rules.{rules}
 use Rattle.index_look.proofs.Keeps.{frame_refused, frame_told_lem}
 use Rattle.index_look.proofs.frame.Goals as goal
 

@@ -1,7 +1,6 @@
 -- `get` meets its contract: where the tree was not found the call refuses (`get_refused`), and so it does keys that descend (`get_descends`); else what
 -- was written is the model's listing (`get_told`). Assumes nothing.
 use mathlib.Core.Path.{sym, ◌∙◌}
-use borrow.Author.Rules.{rules}
 use Rattle.index_look.proofs.Keeps.{get_refused, get_descends, get_told}
 use Rattle.index_look.proofs.get.Goals as goal
 

@@ -1,6 +1,5 @@
 -- `scan` meets its contract: where the tree was not found the call refuses (`scan_refused`), and where it was what was written, and the nodes that were
 -- opened, are the model's (`scan_told`). Assumes nothing.
-use borrow.Author.Rules.{rules}
 use Rattle.model.specs.Look.{request_for}
 use Rattle.index_look.proofs.Keeps.{scan_refused, scan_told}
 use Rattle.index_look.proofs.scan.Goals as goal

@@ -1,6 +1,5 @@
 -- `totals` meets its contract: where the tree was not found the call refuses (`totals_refused`), and where it was the totals are the model's
 -- (`totals_told`). Assumes nothing.
-use borrow.Author.Rules.{rules}
 use Rattle.index_look.proofs.Keeps.{totals_refused, totals_told}
 use Rattle.index_look.proofs.totals.Goals as goal
 

@@ -1,6 +1,5 @@
 -- `find` meets its contract: the survey tells whether the pool is sound; where it is not the answer is 2 (`no_pool`), and where it is but has no such
 -- tree 19 (`no_tree`); else what was found is the tree's own (`found`). Assumes nothing.
-use borrow.Author.Rules.{rules}
 use Rattle.index_named.proofs.Trees.{no_pool, in_limits, no_tree, found}
 use Rattle.index_named.proofs.find.Goals as goal
 

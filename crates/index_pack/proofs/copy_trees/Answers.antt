@@ -2,7 +2,6 @@
 -- one before it (`first_ready`, `second_ready`), and what is left is the image of the packed forest (`told_done`). Assumes nothing.
 use mathlib.Core.Path.{◌≡◌, ◌∙◌}
 use native.Mathlib.Omega.{arith}
-use borrow.Author.Rules.{rules}
 use Rattle.words.specs.Words.{words}
 use Rattle.tree.specs.Pool.{settings_in}
 use Rattle.index_pack.specs.Plan.{plan_for}

@@ -1,5 +1,4 @@
 -- `entries_in` meets its contract: live entries and dead ones are all (`entries_told`), and not too many for a sum. Assumes nothing.
-use borrow.Author.Rules.{rules}
 use Rattle.index_pack.proofs.Asks.{entries_told}
 use Rattle.index_pack.proofs.entries_in.Goals as goal
 

@@ -1,6 +1,5 @@
 -- `pack` meets its contract: the surveys tell whether both pools are sound, the tests which refusal applies (`told_17`, `told_18`), and `copy_trees`
 -- does the rest. Assumes nothing.
-use borrow.Author.Rules.{rules}
 use Rattle.survey.proofs.Founds.{unsound, told}
 use Rattle.index_pack.specs.Promises.{Found}
 use Rattle.index_pack.proofs.Keeps.{source_unsound, target_unsound}

@@ -1,5 +1,4 @@
 -- `plan_tree` meets its contract: height and nodes are worked out from the tree's own entries (`counts_asked`, `planned`). Assumes nothing.
-use borrow.Author.Rules.{rules}
 use Rattle.index_pack.proofs.Plans.{order_narrow, counts_asked, planned}
 use Rattle.index_pack.proofs.plan_tree.Goals as goal
 

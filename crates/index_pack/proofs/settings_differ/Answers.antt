@@ -1,5 +1,4 @@
 -- `settings_differ` meets its contract: the first trees differ, or else the second ones tell. Assumes nothing.
-use borrow.Author.Rules.{rules}
 use Rattle.index_pack.proofs.Asks.{first_differ, second_tell}
 use Rattle.index_pack.proofs.settings_differ.Goals as goal
 

@@ -1,6 +1,5 @@
 -- `portion` meets its contract: what is made of a scan that was done is the definition's portion (`portion_told`), and one that was refused is refused so
 -- (`told_refused`). Assumes nothing.
-use borrow.Author.Rules.{rules}
 use Rattle.index_portion.proofs.Tells.{shown_fits, portion_told, told_refused}
 use Rattle.index_portion.proofs.portion.Goals as goal
 

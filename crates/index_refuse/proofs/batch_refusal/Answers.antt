@@ -2,7 +2,6 @@
 -- nodes it wants fit a word. Assumes nothing.
 use mathlib.Core.Path.{refl, sym, ◌∙◌}
 use native.Mathlib.Omega.{arith}
-use borrow.Author.Rules.{rules}
 use Rattle.model.specs.Refuse.{Call, tree_refusal}
 use Rattle.model.proofs.Calls.{formed}
 use Rattle.index_refuse.proofs.Refuses.{by_call, by_tree}

@@ -1,6 +1,5 @@
 -- `operation_fits` meets its contract: what an operation carries is known in the arm that matches it. Assumes nothing.
 use mathlib.Core.Path.{sym, subst}
-use borrow.Author.Rules.{rules}
 use Rattle.model.specs.Demands.{OperationFits, ActionFits}
 use Rattle.index_refuse.proofs.operation_fits.Goals as goal
 

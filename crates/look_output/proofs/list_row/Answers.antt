@@ -3,7 +3,6 @@ use mathlib.Core.Path.{ap, ◌∙◌}
 use Prim.Native.Nat.{ℕ, ◌+◌}
 use mathlib.Core.Bool.{false}
 use mathlib.Core.List.{List}
-use borrow.Author.Rules.{rules}
 use Rattle.tree.specs.Bridge.{entry_of}
 use Rattle.look_output.specs.Output.{page}
 use Rattle.look_output.proofs.Outputs.{enlist_put, enlist_full}

@@ -1,5 +1,4 @@
 -- `after_scan` meets its contract: the next start is the definition's, and so is the end, with room for an entry and without. Assumes nothing.
-use borrow.Author.Rules.{rules}
 use Rattle.look_portion.proofs.Outputs.{told_with_room, told_without}
 use Rattle.look_portion.proofs.after_scan.Goals as goal
 

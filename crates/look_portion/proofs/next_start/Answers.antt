@@ -1,6 +1,5 @@
 -- `next_start` meets its contract: where something was shown, the word that is read is the key of the last entry (`last_shown`). Assumes nothing.
 use native.Mathlib.Omega.{arith}
-use borrow.Author.Rules.{rules}
 use Rattle.words.specs.Words.{words}
 use Rattle.words.proofs.Laws.{length_words}
 use Rattle.look_portion.proofs.Outputs.{last_shown}

@@ -1,19 +1,12 @@
 -- The cycle of a scan's walk meets its contracts: a node is a leaf or has children, the loop over children steps into each, and a child is a node one
 -- level lower. The height falls round the cycle. The laws are in `Rounds`. Assumes nothing.
-use mathlib.Core.Path.{◌≡◌, refl, sym, ap, ◌∙◌, subst}
-use Prim.Native.Nat.{ℕ, suc, ◌+◌, ◌-◌, ◌*◌, ◌≤◌, ◌<◌}
-use native.Mathlib.Omega.{arith}
+use mathlib.Core.Path.{◌≡◌}
+use Prim.Native.Nat.{◌+◌, ◌-◌, ◌*◌, ◌≤◌}
 use lib.ListN.{length}
-use borrow.Author.Rules.{rules}
-use borrow.Author.Tests.{not-true, not-false}
 use Rattle.words.specs.Words.{words}
 use Rattle.slots.specs.Nodes.{nodes, rows_at}
-use Rattle.model.specs.Look.{openings}
-use Rattle.tree.specs.Bridge.{tree_at}
-use Rattle.look_scan.specs.Walk.{place_in, walk_at, visit_all}
-use Rattle.look_scan.specs.Promises.{ToScan}
-use Rattle.tree.proofs.Children.{held_at}
-use Rattle.look_scan.proofs.Rounds.{passed_over, to_child, from_child, Walking, walk_counts, walk_starts, walk_is, walk_ends, walk_stops, walk_enters, walk_leaves, walk_goes_on}
+use Rattle.look_scan.specs.Walk.{walk_at}
+use Rattle.look_scan.proofs.Rounds.{Walking}
 use Rattle.look_scan.proofs.+scan_child_scan_children_scan_node.Given as goal
 
 -- THE MEASURES: a node of height h is 3 * h, a child of that height one more, the children of that height two more

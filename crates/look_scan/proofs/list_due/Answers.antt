@@ -1,7 +1,6 @@
 -- `list_due` meets its contract: an entry that is not due adds nothing. Assumes nothing.
 use mathlib.Core.Path.{◌≡◌, refl, sym, ◌∙◌}
 use mathlib.Core.Bool.{true, false}
-use borrow.Author.Rules.{rules}
 use borrow.Author.Tests.{not-true, not-false}
 use Rattle.model.specs.Look.{due}
 use Rattle.tree.specs.Bridge.{entry_of}

@@ -1,23 +1,12 @@
 -- `scan_leaf` meets its contract. The loop's invariant: the entries that are left, listed on this page, give what all of them give on the first.
 -- Assumes nothing.
-use mathlib.Core.Path.{◌≡◌, refl, sym, ap, ◌∙◌}
-use mathlib.Core.List.{[], ◌∷◌}
-use Prim.Native.Nat.{ℕ, ◌+◌, ◌-◌, ◌≤◌}
-use native.Mathlib.Omega.{arith}
+use mathlib.Core.Path.{◌≡◌}
+use Prim.Native.Nat.{◌-◌, ◌≤◌}
 use lib.ListN.{length}
-use borrow.Author.Rules.{rules}
-use borrow.Author.Tests.{not-true, not-false}
 use Rattle.words.specs.Words.{words}
-use Rattle.slots_raw.specs.declared.Row.{Row}
 use Rattle.slots.specs.Nodes.{rows_at}
-use Rattle.model.specs.Lists.{keep}
-use Rattle.model.specs.Look.{due}
-use Rattle.tree.specs.Bridge.{entry_of}
 use Rattle.look_output.specs.Output.{page, enlist_all}
-use Rattle.look_scan.specs.Walk.{place_in}
-use Rattle.look_output.proofs.Outputs.{ended}
-use Rattle.tree.proofs.Children.{held_at}
-use Rattle.look_scan.proofs.Visits.{leaf_rest, leaf_next, leaf_end, leaf_visited}
+use Rattle.look_scan.proofs.Visits.{leaf_rest}
 use Rattle.look_scan.proofs.scan_leaf.Given as goal
 
 abbrev pub invariant-loop-j : goal.invariant-loop-j

@@ -1,5 +1,4 @@
 -- `handed` meets its contract, field by field. Assumes nothing.
-use borrow.Author.Rules.{rules}
 use Rattle.model_code.proofs.handed.Goals as goal
 
 pub returns : goal.returns

@@ -1,7 +1,6 @@
 -- `rows_for` meets its contract: twice the larger order. Assumes nothing.
 use mathlib.Core.Path.{ap}
 use Prim.Native.Nat.{ℕ, ◌*◌}
-use borrow.Author.Rules.{rules}
 use Rattle.model.specs.Sound.{rows_for}
 use Rattle.model_code.proofs.rows_for.Goals as goal
 

@@ -1,6 +1,5 @@
 -- `starts` meets its contract, bound by bound. Assumes nothing.
 use mathlib.Core.Path.{sym, ap}
-use borrow.Author.Rules.{rules}
 use Rattle.model.specs.declared.Bound.{Bound}
 use Rattle.model.specs.Look as look
 use Rattle.model_code.proofs.starts.Goals as goal

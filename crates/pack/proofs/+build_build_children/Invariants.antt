@@ -1,14 +1,10 @@
 -- The cycle of `build` and `build_children`. The loop's invariant (`Growing`): the slot holds the children of the first `taken` entries, which have the slots
 -- up to `next`. The height falls round the cycle. Assumes nothing.
-use mathlib.Core.Path.{◌≡◌, refl, ap, ◌∙◌}
-use Prim.Native.Nat.{ℕ, suc, ◌+◌, ◌-◌, ◌*◌, ◌<◌, min}
-use native.Mathlib.Omega.{arith}
+use mathlib.Core.Path.{◌≡◌}
+use Prim.Native.Nat.{◌+◌, ◌-◌, ◌*◌}
 use lib.ListN.{length}
-use borrow.Author.Rules.{rules}
 use Rattle.words.specs.Words.{words}
-use Rattle.model_pack.proofs.Pieces.{capacity_some}
-use Rattle.pack.proofs.Grows.{Growing, growing_start, inside, child_asks, child_hangs, growing_on, growing_end}
-use Rattle.pack.proofs.Roots.{leaf_asks, leaf_done, children_ask, children_begun, children_done}
+use Rattle.pack.proofs.Grows.{Growing}
 use Rattle.pack.proofs.+build_build_children.Given as goal
 
 -- the height falls round the cycle, from an interior to its children

@@ -1,12 +1,10 @@
 -- `fill_leaf` meets its contract. The loop's invariant (`Filling`): the leaf has the first `taken` entries of the piece. A run of rows that stand side
 -- by side in the source is as many entries more. Assumes nothing.
-use mathlib.Core.Path.{◌≡◌, refl, ap, ◌∙◌}
-use Prim.Native.Nat.{ℕ, ◌-◌, min}
-use native.Mathlib.Omega.{arith}
+use mathlib.Core.Path.{◌≡◌}
+use Prim.Native.Nat.{◌-◌}
 use lib.ListN.{length}
-use borrow.Author.Rules.{rules}
 use Rattle.words.specs.Words.{words}
-use Rattle.pack.proofs.Fills.{Filling, filling_start, filling_spot, run_some, filling_asks, filling_on, filling_end}
+use Rattle.pack.proofs.Fills.{Filling}
 use Rattle.pack.proofs.fill_leaf.Given as goal
 
 abbrev pub invariant-loop-taken : goal.invariant-loop-taken

@@ -1,9 +1,8 @@
 -- `nodes_for` meets its contract, the height falling. The loop's invariant: the nodes counted so far, with those of the pieces that are left, are the
 -- tree's (`Counting`). Assumes nothing.
 use mathlib.Core.Path.{◌≡◌, sym, ap, ◌∙◌}
-use Prim.Native.Nat.{ℕ, suc, ◌+◌, ◌-◌, ◌≤◌, ◌<◌, min}
+use Prim.Native.Nat.{ℕ, suc, ◌+◌, ◌-◌, ◌≤◌, min}
 use native.Mathlib.Omega.{arith}
-use borrow.Author.Rules.{rules}
 use Rattle.model_pack.specs.Pack as pack
 use Rattle.model_pack.proofs.Pieces.{capacity_some, capacity_most}
 use Rattle.pack_plan.specs.Plan.{packed_nodes}

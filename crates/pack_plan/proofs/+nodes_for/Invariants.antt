@@ -1,13 +1,7 @@
 -- `nodes_for` meets its contract, the height falling. The loop's invariant: the nodes counted so far, with those of the pieces that are left, are the
 -- tree's (`Counting`). Assumes nothing.
-use mathlib.Core.Path.{◌≡◌, sym, ap, ◌∙◌}
-use Prim.Native.Nat.{ℕ, suc, ◌+◌, ◌-◌, ◌≤◌, ◌<◌, min}
-use native.Mathlib.Omega.{arith}
-use borrow.Author.Rules.{rules}
-use Rattle.model_pack.specs.Pack as pack
-use Rattle.model_pack.proofs.Pieces.{capacity_some, capacity_most}
-use Rattle.pack_plan.specs.Plan.{packed_nodes}
-use Rattle.pack_plan.proofs.Sums.{nodes_bound, Counting, counting_start, counting_more, counting_end}
+use Prim.Native.Nat.{◌-◌}
+use Rattle.pack_plan.proofs.Sums.{Counting}
 use Rattle.pack_plan.proofs.+nodes_for.Given as goal
 
 abbrev pub decreases-nodes_for : goal.decreases-nodes_for

@@ -1,9 +1,7 @@
 -- `capacity` meets its contract. The loop's invariant: `most` is the capacity at height h. Assumes nothing.
-use mathlib.Core.Path.{◌≡◌, refl, ap, ◌∙◌}
+use mathlib.Core.Path.{◌≡◌}
 use Prim.Native.Nat.{◌-◌, ◌≤◌}
-use native.Mathlib.Omega.{arith}
 use Rattle.model_pack.specs.Pack as pack
-use Rattle.pack_plan.proofs.Heights.{capacity_next, capacity_fits}
 use Rattle.pack_plan.proofs.capacity.Given as goal
 
 abbrev pub invariant-loop-h : goal.invariant-loop-h

@@ -2,7 +2,7 @@
 use Prim.Native.Nat.{◌-◌}
 use native.Mathlib.Omega.{arith}
 use borrow.Author.Tests.{ltb-true, ltb-false}
-use Rattle.pack_plan.proofs.Heights.{capacity_fits, Seeking, seeking_start, seeking_on, seeking_found, seeking_past}
+use Rattle.pack_plan.proofs.Heights.{capacity_fits, seeking_start, seeking_on, seeking_found, seeking_past}
 use Rattle.pack_plan.proofs.height_for.Goals as goal
 
 pub loop-height-init : goal.loop-height-init

@@ -1,8 +1,6 @@
 -- `height_for` meets its contract. The loop's invariant: the search from here is the search from the start (`Seeking`). Assumes nothing.
 use Prim.Native.Nat.{◌-◌}
-use native.Mathlib.Omega.{arith}
-use borrow.Author.Tests.{ltb-true, ltb-false}
-use Rattle.pack_plan.proofs.Heights.{capacity_fits, Seeking, seeking_start, seeking_on, seeking_found, seeking_past}
+use Rattle.pack_plan.proofs.Heights.{Seeking}
 use Rattle.pack_plan.proofs.height_for.Given as goal
 
 abbrev pub invariant-loop-height : goal.invariant-loop-height

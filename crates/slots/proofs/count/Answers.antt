@@ -1,7 +1,6 @@
 -- `count` meets its contract: in a pool in order the count of a slot is the number of its node's rows (`count_node`). Assumes nothing.
 use mathlib.Core.Path.{◌∙◌}
 use native.Mathlib.Omega.{arith}
-use borrow.Author.Rules.{rules}
 use Rattle.words.specs.Words.{words}
 use Rattle.slots.proofs.Nodes.{count_node, fits_node}
 use Rattle.slots.proofs.count.Goals as goal

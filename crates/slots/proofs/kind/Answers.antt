@@ -1,6 +1,5 @@
 -- `kind` meets its contract: the kind of a slot is that of its node (`kind_node`). Assumes nothing.
 use mathlib.Core.Path.{◌∙◌}
-use borrow.Author.Rules.{rules}
 use Rattle.words.specs.Words.{words}
 use Rattle.slots.proofs.Nodes.{kind_node}
 use Rattle.slots.proofs.kind.Goals as goal

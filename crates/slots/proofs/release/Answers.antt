@@ -1,7 +1,6 @@
 -- `release` meets its contract: a node without rows and of kind 0 is an unused slot (`released`). Assumes nothing.
 use native.Mathlib.Omega.{arith}
 use mathlib.Core.List.{List}
-use borrow.Author.Rules.{rules}
 use Rattle.words.specs.Words.{words}
 use Rattle.slots.specs.Nodes.{Node, nodes, put_kind}
 use Rattle.slots.proofs.Nodes.{then, become, length_nodes}

@@ -1,7 +1,6 @@
 -- `remove_rows` meets its contract: the rows behind are moved down, as many blank ones set after them, and the count lowered, each in the one slot
 -- (`again`), which is then the node without the rows (`closed_now`). Assumes nothing.
 use native.Mathlib.Omega.{arith}
-use borrow.Author.Rules.{rules}
 use Rattle.words.specs.Words.{words}
 use Rattle.slots.proofs.Writes.{closed_by}
 use Rattle.slots.proofs.remove_rows.Goals as goal

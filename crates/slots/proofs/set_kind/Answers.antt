@@ -1,5 +1,4 @@
 -- `set_kind` meets its contract: a slot with another kind holds its node with that kind (`kind_now`). Assumes nothing.
-use borrow.Author.Rules.{rules}
 use Rattle.words.specs.Words.{words}
 use Rattle.slots.proofs.Nodes.{kind_now}
 use Rattle.slots.proofs.set_kind.Goals as goal

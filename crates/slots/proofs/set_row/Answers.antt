@@ -1,7 +1,6 @@
 -- `set_row` meets its contract: a slot with another row holds its node with that row (`row_now`). Assumes nothing.
 use mathlib.Core.Path.{refl}
 use native.Mathlib.Omega.{arith}
-use borrow.Author.Rules.{rules}
 use Rattle.words.specs.Words.{words}
 use Rattle.slots.proofs.Nodes.{fits_node, row_now}
 use Rattle.slots.proofs.set_row.Goals as goal

@@ -2,7 +2,6 @@
 -- (`rows_brought`); with the count raised, in the one slot (`again`), they stand behind the rows of its node (`appended_now`). Assumes nothing.
 use Prim.Native.Nat.{◌+◌, ◌≤◌}
 use native.Mathlib.Omega.{arith}
-use borrow.Author.Rules.{rules}
 use Rattle.words.specs.Words.{words}
 use Rattle.slots_raw.specs.Slots.{Raw}
 use Rattle.slots_write.specs.Puts.{with_count}

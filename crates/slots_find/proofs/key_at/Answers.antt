@@ -1,6 +1,5 @@
 -- `key_at` meets its contract: its answer is the key of the row that it reads. Assumes nothing.
 use mathlib.Core.Path.{ap}
-use borrow.Author.Rules.{rules}
 use Rattle.slots_raw.specs.declared.Row.{Row}
 use Rattle.slots_find.proofs.key_at.Goals as goal
 

@@ -1,12 +1,9 @@
 -- `lowest_unused` meets its contract. The loop's invariant: no slot below `s` is unused. Assumes nothing.
-use mathlib.Core.Path.{◌≡◌, refl, sym, ◌∙◌}
-use Prim.Native.Nat.{◌-◌, ◌≤◌}
+use mathlib.Core.Path.{refl, sym, ◌∙◌}
+use Prim.Native.Nat.{◌-◌}
 use native.Mathlib.Omega.{arith}
-use borrow.Author.Rules.{rules}
 use borrow.Author.Count.{below_more}
 use Rattle.words.specs.Words.{words}
-use Rattle.slots.specs.Nodes as N
-use Rattle.slots_find.specs.Promises.{Below}
 use Rattle.slots.proofs.Nodes.{length_nodes}
 use Rattle.slots_find.proofs.lowest_unused.Goals as goal
 

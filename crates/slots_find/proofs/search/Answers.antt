@@ -1,13 +1,11 @@
 -- `search` meets its contract. The loop's invariant: the keys before row `i` are below `key`. So where the walk ends, the row that it has come to tells, or
 -- that there is none. Assumes nothing.
 use mathlib.Core.Path.{sym, ◌∙◌}
-use Prim.Native.Nat.{ℕ, ◌-◌, ◌≤◌, ◌<◌}
+use Prim.Native.Nat.{◌-◌}
 use native.Mathlib.Omega.{arith}
-use borrow.Author.Rules.{rules}
 use borrow.Author.Count.{below_none, below_more}
 use Rattle.words.specs.Words.{words}
 use Rattle.slots.specs.Nodes.{rows_at}
-use Rattle.slots_find.specs.Search.{key_at}
 use Rattle.slots_find.proofs.Finds.{found_at, found_not, found_end}
 use Rattle.slots_find.proofs.search.Goals as goal
 

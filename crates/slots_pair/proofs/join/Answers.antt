@@ -1,7 +1,6 @@
 -- `join` meets its contract: all rows of `high` put in at the end of `low`, and slot `high` given up, are a joining (`joined`). Assumes nothing.
 use mathlib.Core.List.{List}
 use lib.ListN.{set}
-use borrow.Author.Rules.{rules}
 use Rattle.words.specs.Words.{words}
 use Rattle.slots.specs.Nodes.{Node, unused, nodes}
 use Rattle.slots.proofs.Nodes.{then, become}

@@ -5,7 +5,6 @@ use Prim.Native.Nat.{◌-◌}
 use native.Mathlib.Omega.{arith}
 use mathlib.Core.List.{List}
 use lib.ListN.{length}
-use borrow.Author.Rules.{rules}
 use Rattle.words.specs.Words.{words}
 use Rattle.slots.specs.Nodes.{Node, nodes, rows_at, put_kind, split_nodes}
 use Rattle.slots.proofs.Nodes.{then, become, length_nodes}

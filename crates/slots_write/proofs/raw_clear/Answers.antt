@@ -1,5 +1,4 @@
 -- `raw_clear` meets its contract: the words that it clears are rows of slot `s` (`rows_cleared`). Assumes nothing.
-use borrow.Author.Rules.{rules}
 use Rattle.words.specs.Words.{words}
 use Rattle.slots_write.proofs.Puts.{rows_cleared}
 use Rattle.slots_write.proofs.raw_clear.Goals as goal

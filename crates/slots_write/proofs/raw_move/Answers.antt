@@ -1,5 +1,4 @@
 -- `raw_move` meets its contract: the words that it copies are rows of slot `s`, and become rows of slot `t` (`rows_brought`). Assumes nothing.
-use borrow.Author.Rules.{rules}
 use Rattle.words.specs.Words.{words}
 use Rattle.slots_write.proofs.Puts.{rows_brought}
 use Rattle.slots_write.proofs.raw_move.Goals as goal

@@ -1,5 +1,4 @@
 -- `raw_put_count` meets its contract: the word that it stores is the count of slot `s`, and no other slot changes (`count_put`). Assumes nothing.
-use borrow.Author.Rules.{rules}
 use Rattle.words.specs.Words.{words}
 use Rattle.slots_write.proofs.Puts.{count_put}
 use Rattle.slots_write.proofs.raw_put_count.Goals as goal

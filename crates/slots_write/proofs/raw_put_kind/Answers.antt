@@ -1,7 +1,6 @@
 -- `raw_put_kind` meets its contract: the word that it stores is the kind of slot `s`, as the tree sees it, and no other slot changes (`kind_put`). Assumes nothing.
 use mathlib.Core.Path.{ap, ◌∙◌}
 use lib.ListN.{set}
-use borrow.Author.Rules.{rules}
 use Rattle.words.specs.Words.{words}
 use Rattle.slots_write.proofs.Puts.{kind_put}
 use Rattle.slots_write.proofs.raw_put_kind.Goals as goal

@@ -3,7 +3,6 @@ use mathlib.Core.Path.{◌≡◌, sym, ap, ◌∙◌, subst}
 use native.Mathlib.Omega.{arith}
 use lib.ListN.{length}
 use borrow.Author.Tests.{not-true, not-false, eqb-true, eq-eqb}
-use borrow.Author.Rules.{rules}
 use Rattle.words.proofs.Laws.{length_words}
 use Rattle.model.specs.Sound.{PoolLimits}
 use Rattle.model.proofs.Answers.{tells_no, told_no}

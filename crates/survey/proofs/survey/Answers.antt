@@ -1,26 +1,19 @@
 -- `survey` meets its contract: its tests are the parts of a sound pool. Assumes nothing.
-use mathlib.Core.Path.{◌≡◌, ap, ◌∙◌}
+use mathlib.Core.Path.{◌≡◌, ap}
 use mathlib.Core.Bool.{true, true≢false}
-use Prim.Native.Nat.{ℕ, ◌+◌, ◌-◌, ◌≤◌}
+use Prim.Native.Nat.{◌+◌, ◌-◌, ◌≤◌}
 use native.Mathlib.Omega.{arith}
 use lib.ListN.{length}
-use borrow.Author.Rules.{rules}
 use borrow.Author.Tests.{not-true, not-false}
 use Rattle.words.specs.Words.{words}
 use Rattle.words.proofs.Laws.{length_words}
 use Rattle.slots.specs.Nodes.{nodes}
-use Rattle.slots.proofs.Nodes.{length_nodes}
 use Rattle.model.specs.declared.PoolSettings.{PoolSettings}
-use Rattle.model.specs.declared.Settings.{Settings}
-use Rattle.model.specs.Sound.{handed}
 use Rattle.model.specs.Tree.{slots_of}
 use Rattle.model.proofs.Answers.{tells_yes, told_no}
-use Rattle.slots_raw.specs.Promises.{Shape}
 use Rattle.tree.specs.Bridge.{unused_of}
 use Rattle.tree.specs.Pool.{given_in, settings_in, nodes_in, index_of, height_at}
-use Rattle.tree.proofs.Pools.{exact_shape}
 use Rattle.survey.specs.Promises.{Headed, SlotsTold}
-use Rattle.tree_spare.proofs.Spares.{unused_few}
 use Rattle.survey_node.specs.Promises.{Walked}
 use Rattle.survey.proofs.Verdicts.{survey_not, sound_pool, pool_headed, pool_idle, pool_tree, pool_counted}
 use Rattle.survey.proofs.Steps.{shaped, handed_is, few, edge}

@@ -1,7 +1,6 @@
 -- `begin` meets its contract: its record is the definition's, with the totals of nothing. Assumes nothing.
 use mathlib.Core.Path.{ap}
 use mathlib.Core.Bool.{true}
-use borrow.Author.Rules.{rules}
 use Rattle.model.specs.declared.Totals.{Totals}
 use Rattle.survey_node.proofs.begin.Goals as goal
 

@@ -5,7 +5,6 @@ use mathlib.Core.List.{List}
 use Prim.Native.Nat.{zero, ◌-◌, ◌<◌}
 use native.Mathlib.Omega.{arith}
 use lib.ListN.{length, get_or}
-use borrow.Author.Rules.{rules}
 use borrow.Author.Tests.{not-true, not-false}
 use Rattle.words.specs.Words.{words}
 use Rattle.slots_raw.specs.declared.Row.{Row}
@@ -19,7 +18,7 @@ use Rattle.tree.specs.Bridge.{entry_of}
 use Rattle.survey_node.specs.Parts.{Last, last, grown}
 use Rattle.survey_node.specs.Promises.{Head, Tail, EntryRight}
 use Rattle.survey_node.proofs.Rows.{RightRow, right_rows, right_head, right_tail}
-use Rattle.survey_node.proofs.Walks.{Going, going_none, going_on, going_fault, going_addable, entry_row, row_entry, checked_not, checked_end}
+use Rattle.survey_node.proofs.Walks.{going_none, going_on, going_fault, going_addable, entry_row, row_entry, checked_not, checked_end}
 use Rattle.survey_node.proofs.Heads.{row_raw, head_count, tail_told}
 use Rattle.survey_node.proofs.check_leaf.Goals as goal
 

@@ -1,17 +1,15 @@
 -- `children_there` meets its contract. The loop's invariant: each of the first `i` rows names a node that is there. Assumes nothing.
 use mathlib.Core.Path.{◌≡◌, ap, ◌∙◌, subst}
 use mathlib.Core.List.{List}
-use Prim.Native.Nat.{ℕ, ◌-◌, ◌≤◌, ◌<◌}
+use Prim.Native.Nat.{ℕ, ◌-◌, ◌<◌}
 use native.Mathlib.Omega.{arith}
-use lib.ListN.{length, take, get_or}
-use borrow.Author.Rules.{rules}
+use lib.ListN.{length, get_or}
 use borrow.Author.Tests.{not-true, not-false}
 use Rattle.words.specs.Words.{words}
 use Rattle.slots_raw.specs.declared.Row.{Row}
 use Rattle.slots_raw.specs.Slots.{blank}
 use Rattle.slots.specs.Nodes.{rows_at}
-use Rattle.model.specs.declared.Settings.{Settings}
-use Rattle.model.specs.Lists.{All, none}
+use Rattle.model.specs.Lists.{none}
 use Rattle.model.proofs.Answers.{told_no, tells_no, tells_yes}
 use Rattle.model.proofs.Lists.{all_at, all_more, all_past}
 use Rattle.tree.specs.Bridge.{child_of}

@@ -1,7 +1,6 @@
 -- `grow` meets its contract: its record is the definition's, with the totals added. Assumes nothing.
 use mathlib.Core.Path.{ap}
 use mathlib.Core.Bool.{true}
-use borrow.Author.Rules.{rules}
 use Rattle.model.specs.declared.Totals.{Totals}
 use Rattle.survey_node.proofs.grow.Goals as goal
 

@@ -1,5 +1,4 @@
 -- `head_right` meets its contract: each test decides one part of the head. Assumes nothing.
-use Prim.Native.Nat.{◌≤◌}
 use native.Mathlib.Omega.{arith}
 use borrow.Author.Tests.{leb-true, le-leb}
 use Rattle.words.specs.Words.{words}

@@ -1,5 +1,4 @@
 -- `interior_right` meets its contract: each test decides one part. Assumes nothing.
-use borrow.Author.Rules.{rules}
 use borrow.Author.Tests.{not-true, not-false}
 use native.Mathlib.Omega.{arith}
 use Rattle.model.proofs.Answers.{tells_no, told_no}

@@ -1,7 +1,6 @@
 -- `there` meets its contract: each test decides one part. Assumes nothing.
 use mathlib.Core.Path.{sym, ◌∙◌}
 use native.Mathlib.Omega.{arith}
-use borrow.Author.Rules.{rules}
 use borrow.Author.Tests.{eqb-true, eq-eqb}
 use Rattle.words.specs.Words.{words}
 use Rattle.slots.proofs.Nodes.{kind_node}

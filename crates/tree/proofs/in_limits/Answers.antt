@@ -1,5 +1,4 @@
 -- `in_limits` meets its contract: the nodes are tested by `within`, and each tree's limits by `limits_right`. Assumes nothing.
-use borrow.Author.Rules.{rules}
 use borrow.Author.Tests.{not-true, not-false}
 use Rattle.model.proofs.Answers.{tells_no, told_no}
 use Rattle.tree.proofs.Opening.{limits_of, tells_limits}

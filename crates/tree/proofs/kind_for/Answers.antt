@@ -1,6 +1,5 @@
 -- `kind_for` meets its contract, by its two cases. Assumes nothing.
 use Rattle.tree.proofs.Cells.{high_kind}
-use borrow.Author.Rules.{rules}
 use Rattle.tree.proofs.kind_for.Goals as goal
 
 pub returns-else-height-eq0 : goal.returns-else-height-eq0

@@ -1,6 +1,5 @@
 -- `limits_right` meets its contract: both limits are tested by `within`. Assumes nothing.
 use native.Mathlib.Omega.{arith}
-use borrow.Author.Rules.{rules}
 use borrow.Author.Tests.{not-true, not-false}
 use Rattle.model.proofs.Answers.{tells_no, told_no}
 use Rattle.tree.proofs.limits_right.Goals as goal

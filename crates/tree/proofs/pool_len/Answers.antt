@@ -7,7 +7,6 @@ use Rattle.model.specs.declared.Settings.{Settings}
 use Rattle.model.specs.Sound.{rows_for}
 use Rattle.model.proofs.Layers.{handed_most}
 use Rattle.tree.proofs.Opening.{slots_small}
-use borrow.Author.Rules.{rules}
 use Rattle.tree.proofs.pool_len.Goals as goal
 
 pub width-requires : goal.width-requires

@@ -1,6 +1,5 @@
 -- `child_at` meets its contract: the row is read, and names a slot. Assumes nothing.
 use mathlib.Core.Path.{ap, ◌∙◌}
-use borrow.Author.Rules.{rules}
 use Rattle.tree.specs.Bridge.{child_of}
 use Rattle.tree_node.proofs.child_at.Goals as goal
 

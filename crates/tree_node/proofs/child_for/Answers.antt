@@ -1,13 +1,11 @@
 -- `child_for` meets its contract: from any child that the loop has come to, the key goes where it goes from the first one. Assumes nothing.
-use borrow.Author.Rules.{rules}
-use mathlib.Core.Path.{◌≡◌, refl}
+use mathlib.Core.Path.{refl}
 use Prim.Native.Nat.{◌+◌, ◌-◌, ◌≤◌, ◌<◌}
 use native.Mathlib.Omega.{arith}
-use lib.ListN.{length, drop}
+use lib.ListN.{length}
 use Rattle.words.specs.Words.{words}
 use Rattle.slots.specs.Nodes.{rows_at}
 use Rattle.slots_find.specs.Search.{key_at}
-use Rattle.tree_node.specs.Ask.{child_for}
 use Rattle.tree_node.proofs.Seeks.{child_here, child_on, child_last}
 use Rattle.tree_node.proofs.child_for.Goals as goal
 

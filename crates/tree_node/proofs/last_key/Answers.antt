@@ -1,6 +1,5 @@
 -- `last_key` meets its contract: a node without rows has no last key (`no_key`), and another's is that of its last row (`key_last`). Assumes nothing.
 use mathlib.Core.Path.{sym, ◌∙◌}
-use borrow.Author.Rules.{rules}
 use Rattle.words.specs.Words.{words}
 use Rattle.slots.specs.Nodes.{rows_at}
 use Rattle.tree_node.proofs.Weights.{no_key, key_last}

@@ -1,16 +1,11 @@
 -- `stats` meets its contract. The loop's invariant: what is summed, and the rows that are left, make up the sum of all rows. Assumes nothing.
-use mathlib.Core.Path.{◌≡◌, sym, ap, ◌∙◌}
+use mathlib.Core.Path.{◌≡◌}
 use Prim.Native.Nat.{◌-◌, ◌≤◌}
-use native.Mathlib.Omega.{arith}
-use borrow.Author.Rules.{rules}
 use lib.ListN.{drop}
 use Rattle.words.specs.Words.{words}
 use Rattle.slots.specs.Nodes.{rows_at}
-use Rattle.model.specs.declared.Totals.{Totals}
 use Rattle.model.specs.Tree.{plus}
-use Rattle.model.proofs.Trees.{zero_plus}
 use Rattle.tree.specs.Sums.{sum_rows}
-use Rattle.tree.proofs.Sums.{sum_more, sum_fits, sum_all}
 use Rattle.tree_node.proofs.stats.Given as goal
 
 abbrev pub invariant-loop-i : goal.invariant-loop-i

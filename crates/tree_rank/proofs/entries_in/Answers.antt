@@ -1,7 +1,6 @@
 -- `entries_in` meets its contract: what the row stores of its child is read, and its two counts make up the weight. Assumes nothing.
 use mathlib.Core.Path.{ap}
 use Prim.Native.Nat.{◌+◌}
-use borrow.Author.Rules.{rules}
 use Rattle.model.specs.declared.Totals.{Totals}
 use Rattle.tree_rank.proofs.entries_in.Goals as goal
 

@@ -1,12 +1,6 @@
 -- `spot_of` meets its contract. The loop's invariant: entry r of the whole tree is entry `row` of the tree of height h in slot `leaf` (`Under`). Assumes
 -- nothing.
-use Prim.Native.Nat.{suc}
-use native.Mathlib.Omega.{arith}
-use Rattle.words.specs.Words.{words}
-use Rattle.slots.specs.Nodes.{nodes}
-use Rattle.model.specs.Tree.{entries}
-use Rattle.tree.specs.Bridge.{tree_at}
-use Rattle.tree_rank.proofs.Ranks.{Under, root_under, step_ready, step_down, arrive}
+use Rattle.tree_rank.proofs.Ranks.{root_under, step_ready, step_down, arrive}
 use Rattle.tree_rank.proofs.spot_of.Goals as goal
 
 pub loop-h-init : goal.loop-h-init

@@ -1,10 +1,9 @@
 -- `step_to` meets its contract. The loop's invariant: the first i children have the entries before r but for `rank` of them, and there is another child,
 -- since all of them have more (`more_rows`). Assumes nothing.
 use mathlib.Core.Path.{◌≡◌, ap, ◌∙◌}
-use Prim.Native.Nat.{◌+◌, ◌-◌, ◌<◌}
+use Prim.Native.Nat.{◌+◌, ◌-◌}
 use native.Mathlib.Omega.{arith}
-use lib.ListN.{length, take}
-use borrow.Author.Rules.{rules}
+use lib.ListN.{take}
 use Rattle.words.specs.Words.{words}
 use Rattle.slots.specs.Nodes.{rows_at}
 use Rattle.slots.proofs.Nodes.{fits_node}

@@ -1,16 +1,11 @@
 -- `step_to` meets its contract. The loop's invariant: the first i children have the entries before r but for `rank` of them, and there is another child,
 -- since all of them have more (`more_rows`). Assumes nothing.
-use mathlib.Core.Path.{◌≡◌, ap, ◌∙◌}
+use mathlib.Core.Path.{◌≡◌}
 use Prim.Native.Nat.{◌+◌, ◌-◌, ◌<◌}
-use native.Mathlib.Omega.{arith}
 use lib.ListN.{length, take}
-use borrow.Author.Rules.{rules}
 use Rattle.words.specs.Words.{words}
 use Rattle.slots.specs.Nodes.{rows_at}
-use Rattle.slots.proofs.Nodes.{fits_node}
-use Rattle.tree.specs.Bridge.{child_of}
-use Rattle.tree_rank.specs.Rank.{weight, weights}
-use Rattle.tree_rank.proofs.Ranks.{weights_more, more_rows}
+use Rattle.tree_rank.specs.Rank.{weights}
 use Rattle.tree_rank.proofs.step_to.Given as goal
 
 abbrev pub invariant-loop-rank : goal.invariant-loop-rank

@@ -1,7 +1,6 @@
 -- `entry_of` meets its contract: a row's words are the entry's. Assumes nothing.
 use mathlib.Core.Path.{ap}
 use Prim.Native.Nat.{ℕ}
-use borrow.Author.Rules.{rules}
 use Rattle.tree_rows.proofs.entry_of.Goals as goal
 
 pub returns : goal.returns

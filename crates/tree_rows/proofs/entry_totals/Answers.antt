@@ -1,6 +1,5 @@
 -- `entry_totals` meets its contract, by its two cases. Assumes nothing.
 use mathlib.Core.Path.{refl, sym, ap, ◌∙◌}
-use borrow.Author.Rules.{rules}
 use Rattle.model.specs.Tree.{is_mark}
 use Rattle.tree_rows.proofs.entry_totals.Goals as goal
 

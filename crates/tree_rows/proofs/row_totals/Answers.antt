@@ -1,6 +1,5 @@
 -- `row_totals` meets its contract, by the height of the row's node. Assumes nothing.
 use mathlib.Core.Path.{◌∙◌}
-use borrow.Author.Rules.{rules}
 use Rattle.tree.proofs.Rows.{leaf_adds, inner_adds}
 use Rattle.tree_rows.proofs.row_totals.Goals as goal
 

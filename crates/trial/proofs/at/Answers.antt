@@ -1,5 +1,5 @@
 -- `trial::at` meets its contract: past the end `get_or` gives 0 too. Assumes nothing.
-use Rattle.std.proofs.Common.{sym, arith, rules}
+use Rattle.std.proofs.Common.{sym, arith}
 use lib.ListN.{get_or-eq_default}
 use Rattle.trial.proofs.at.Goals as goal
 

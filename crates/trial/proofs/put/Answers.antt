@@ -1,5 +1,5 @@
 -- `trial::put` meets its contract: past the end `set` leaves the list as it is. Assumes nothing.
-use Rattle.std.proofs.Common.{sym, arith, rules}
+use Rattle.std.proofs.Common.{sym, arith}
 use lib.Seq.{set_out}
 use Rattle.trial.proofs.put.Goals as goal
 

@@ -1,5 +1,5 @@
 -- `trial::put_word` meets its contract: past the last whole word `set` leaves the words as they are. Assumes nothing.
-use Rattle.std.proofs.Common.{sym, arith, rules}
+use Rattle.std.proofs.Common.{sym, arith}
 use lib.Seq.{set_out}
 use Rattle.words.specs.Words.{words}
 use Rattle.words.proofs.Laws.{length_words, same_refl}

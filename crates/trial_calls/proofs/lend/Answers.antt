@@ -2,7 +2,6 @@
 use native.Mathlib.Omega.{arith}
 use mathlib.Core.Path.{sym}
 use lib.Seq.{length-take-le}
-use borrow.Author.Rules.{rules}
 use Rattle.trial_calls.proofs.lend.Goals as goal
 
 pub slice_bounds-call-end-2 : goal.slice_bounds-call-end-2

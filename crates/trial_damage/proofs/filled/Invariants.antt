@@ -1,5 +1,5 @@
 -- `filled` is safe and ends: a key of each tree a turn, and setting one leaves the pool as long as it was. Assumes nothing.
-use Rattle.std.proofs.Common.{◌≡◌, ◌-◌, length, rules}
+use Rattle.std.proofs.Common.{◌≡◌, ◌-◌, length}
 use Rattle.trial_damage.proofs.filled.Given as goal
 
 abbrev pub invariant-loop-j : goal.invariant-loop-j

@@ -1,6 +1,5 @@
 -- `check_entries` is safe and ends: a word of the entries a turn. Assumes nothing.
 use Prim.Native.Nat.{◌-◌}
-use borrow.Author.Rules.{rules}
 use Rattle.trial_frames.proofs.check_entries.Given as goal
 
 abbrev pub invariant-loop-k : goal.invariant-loop-k

@@ -1,6 +1,5 @@
 -- `starts` is safe and ends: a byte of the line a turn. Assumes nothing.
 use Prim.Native.Nat.{◌-◌}
-use borrow.Author.Rules.{rules}
 use Rattle.trial_frames.proofs.starts.Given as goal
 
 abbrev pub invariant-loop-j : goal.invariant-loop-j

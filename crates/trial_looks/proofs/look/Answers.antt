@@ -2,7 +2,6 @@
 use native.Mathlib.Omega.{arith}
 use mathlib.Core.Path.{sym}
 use lib.Seq.{length-take-le}
-use borrow.Author.Rules.{rules}
 use Rattle.trial_looks.proofs.look.Goals as goal
 
 pub slice_bounds-look_into-end : goal.slice_bounds-look_into-end

@@ -1,6 +1,5 @@
 -- `written` is safe and ends: a byte a turn, up to the end of the output. Assumes nothing.
 use Prim.Native.Nat.{◌-◌}
-use borrow.Author.Rules.{rules}
 use Rattle.trial_looks.proofs.written.Given as goal
 
 abbrev pub invariant-loop-j : goal.invariant-loop-j

@@ -1,5 +1,5 @@
 -- `keeps_rank` is safe and ends: a row a turn, and a word is read from anywhere. Assumes nothing.
-use Rattle.std.proofs.Common.{◌-◌, rules}
+use Rattle.std.proofs.Common.{◌-◌}
 use Rattle.trial_rules.proofs.keeps_rank.Given as goal
 
 abbrev pub invariant-loop-j : goal.invariant-loop-j

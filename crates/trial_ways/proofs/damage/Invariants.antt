@@ -1,5 +1,5 @@
 -- `damage` is safe and ends. The loop's invariant: no damage changes how long the pool is. Assumes nothing.
-use Rattle.std.proofs.Common.{◌≡◌, ◌-◌, length, rules}
+use Rattle.std.proofs.Common.{◌≡◌, ◌-◌, length}
 use Rattle.trial_ways.proofs.damage.Given as goal
 
 abbrev pub invariant-loop-i : goal.invariant-loop-i

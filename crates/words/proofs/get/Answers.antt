@@ -1,6 +1,5 @@
 -- `get` meets its contract: the eight bytes that it reads spell the word (`words_read`). Assumes nothing.
 use native.Mathlib.Omega.{arith}
-use borrow.Author.Rules.{rules}
 use Rattle.words.specs.Words.{word}
 use Rattle.words.proofs.Laws.{words_read}
 use Rattle.words.proofs.get.Goals as goal

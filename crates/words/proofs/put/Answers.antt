@@ -1,7 +1,6 @@
 -- `put` meets its contract: the eight bytes that it stores spell `v`, and no other byte changes (`words_written`, `same_written`). Assumes nothing.
 use native.Mathlib.Omega.{arith}
 use lib.ListN.{length-set}
-use borrow.Author.Rules.{rules}
 use Rattle.words.specs.Words.{spell}
 use Rattle.words.proofs.Laws.{words_written, same_written}
 use Rattle.words.proofs.put.Goals as goal

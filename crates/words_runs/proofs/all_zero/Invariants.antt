@@ -1,13 +1,9 @@
 -- `all_zero` meets its contract. The loop's invariant: the answer for the whole run is the answer for what is left of it. Assumes nothing.
-use mathlib.Core.Path.{◌≡◌, sym, ◌∙◌}
+use mathlib.Core.Path.{◌≡◌}
 use Prim.Native.Nat.{◌+◌, ◌-◌, ◌≤◌}
-use native.Mathlib.Omega.{arith}
 use lib.ListN.{length, take, drop}
-use borrow.Author.Tests.{not-true, not-false}
 use Rattle.words.specs.Words.{words}
 use Rattle.words_runs.specs.Moves.{all_zero}
-use Rattle.words.proofs.Laws.{words_short}
-use Rattle.words_runs.proofs.Runs.{zero_start, zero_pass, zero_stop}
 use Rattle.words_runs.proofs.all_zero.Given as goal
 
 -- that words are fewer than bytes keeps `from + k` from wrapping

@@ -1,13 +1,8 @@
 -- `bring` meets its contract. The loop's invariant: the first `k` words are brought, and the pool has kept its size. Assumes nothing.
-use mathlib.Core.Path.{◌≡◌, ap, ◌∙◌}
-use Prim.Native.Nat.{ℕ, ◌+◌, ◌-◌, ◌≤◌}
-use native.Mathlib.Omega.{arith}
-use mathlib.Core.List.{List}
-use lib.ListN.{get_or, set}
+use mathlib.Core.Path.{◌≡◌}
+use Prim.Native.Nat.{◌-◌, ◌≤◌}
 use Rattle.words.specs.Words.{words, Same}
 use Rattle.words_runs.specs.Moves.{brought}
-use Rattle.words.proofs.Laws.{words_short, same_refl, same_then}
-use Rattle.words_runs.proofs.Runs.{brought_none, brought_more}
 use Rattle.words_runs.proofs.bring.Given as goal
 
 abbrev pub invariant-loop-k : goal.invariant-loop-k

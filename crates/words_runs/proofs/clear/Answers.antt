@@ -1,10 +1,10 @@
 -- `clear` meets its contract. The loop's invariant: the `k` words from `from` on are 0, and the pool has kept its size. Assumes nothing.
 use mathlib.Core.Path.{◌≡◌, ap, ◌∙◌}
-use Prim.Native.Nat.{ℕ, ◌+◌, ◌-◌, ◌≤◌}
+use Prim.Native.Nat.{ℕ, ◌+◌, ◌-◌}
 use native.Mathlib.Omega.{arith}
 use mathlib.Core.List.{List}
 use lib.ListN.{set}
-use Rattle.words.specs.Words.{words, Same}
+use Rattle.words.specs.Words.{words}
 use Rattle.words_runs.specs.Moves.{cleared}
 use Rattle.words.proofs.Laws.{same_refl, same_then}
 use Rattle.words_runs.proofs.Runs.{cleared_none, cleared_more}

@@ -1,13 +1,8 @@
 -- `clear` meets its contract. The loop's invariant: the `k` words from `from` on are 0, and the pool has kept its size. Assumes nothing.
-use mathlib.Core.Path.{◌≡◌, ap, ◌∙◌}
-use Prim.Native.Nat.{ℕ, ◌+◌, ◌-◌, ◌≤◌}
-use native.Mathlib.Omega.{arith}
-use mathlib.Core.List.{List}
-use lib.ListN.{set}
+use mathlib.Core.Path.{◌≡◌}
+use Prim.Native.Nat.{◌-◌, ◌≤◌}
 use Rattle.words.specs.Words.{words, Same}
 use Rattle.words_runs.specs.Moves.{cleared}
-use Rattle.words.proofs.Laws.{same_refl, same_then}
-use Rattle.words_runs.proofs.Runs.{cleared_none, cleared_more}
 use Rattle.words_runs.proofs.clear.Given as goal
 
 abbrev pub invariant-loop-k : goal.invariant-loop-k

@@ -1,10 +1,10 @@
 -- `move_up` meets its contract. The loop's invariant: the words from `k` on are moved, and the pool has kept its size. Assumes nothing.
 use mathlib.Core.Path.{◌≡◌, ap, ◌∙◌}
-use Prim.Native.Nat.{ℕ, ◌+◌, ◌-◌, ◌≤◌}
+use Prim.Native.Nat.{ℕ, ◌+◌, ◌-◌}
 use native.Mathlib.Omega.{arith}
 use mathlib.Core.List.{List}
 use lib.ListN.{get_or, set}
-use Rattle.words.specs.Words.{words, Same}
+use Rattle.words.specs.Words.{words}
 use Rattle.words.proofs.Laws.{same_refl, same_then}
 use Rattle.words_runs.proofs.Runs.{moved_from, from_none, from_more, from_all}
 use Rattle.words_runs.proofs.move_up.Goals as goal

@@ -1,8 +1,8 @@
 -- `zeros` meets its contract. The loop's invariant: `bits` is 0 if and only if the `k` words from `from` on are. Assumes nothing.
 use mathlib.Core.Path.{◌≡◌, ap, ◌∙◌}
-use Prim.Native.Nat.{ℕ, ◌-◌, ◌≤◌}
+use Prim.Native.Nat.{ℕ, ◌-◌}
 use native.Mathlib.Omega.{arith}
-use lib.ListN.{length, take, drop}
+use lib.ListN.{take, drop}
 use lib.Dec.{eqb}
 use lib.Bits.{bit_or}
 use Rattle.words.specs.Words.{words}

@@ -1,14 +1,10 @@
 -- `zeros` meets its contract. The loop's invariant: `bits` is 0 if and only if the `k` words from `from` on are. Assumes nothing.
-use mathlib.Core.Path.{◌≡◌, ap, ◌∙◌}
-use Prim.Native.Nat.{ℕ, ◌-◌, ◌≤◌}
-use native.Mathlib.Omega.{arith}
+use mathlib.Core.Path.{◌≡◌}
+use Prim.Native.Nat.{◌-◌, ◌≤◌}
 use lib.ListN.{length, take, drop}
 use lib.Dec.{eqb}
-use lib.Bits.{bit_or}
 use Rattle.words.specs.Words.{words}
 use Rattle.words_runs.specs.Moves.{all_zero}
-use Rattle.words.proofs.Laws.{words_short}
-use Rattle.words_runs.proofs.Runs.{bits_none, bits_more}
 use Rattle.words_runs.proofs.zeros.Given as goal
 
 -- that words are fewer than bytes keeps `from + k` from wrapping

@@ -1,5 +1,4 @@
 -- `change_key` meets its contract: what was found and decided can be done (`key_able`), and done it is the task (`key_done`). Assumes nothing.
-use borrow.Author.Rules.{rules}
 use Rattle.words.specs.Words.{words}
 use Rattle.slots.specs.Nodes.{rows_at}
 use Rattle.batch_leaf.proofs.Steps.{ascending, key_able, key_done}

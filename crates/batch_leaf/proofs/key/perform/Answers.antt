@@ -1,6 +1,5 @@
 -- `perform` meets its contract: each effect but the first is one change of rows. Assumes nothing.
 use mathlib.Core.Path.{refl, sym}
-use borrow.Author.Rules.{rules}
 use Rattle.words.specs.Words.{words}
 use Rattle.slots.specs.Nodes.{nodes}
 use Rattle.slots.specs.Promises.{ToTouch}

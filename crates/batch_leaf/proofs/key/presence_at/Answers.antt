@@ -1,6 +1,5 @@
 -- `presence_at` meets its contract: a place that was found is a row's. Assumes nothing.
 use native.Mathlib.Omega.{arith}
-use borrow.Author.Rules.{rules}
 use Rattle.batch_leaf.proofs.key.presence_at.Goals as goal
 
 pub row_at-row-requires : goal.row_at-row-requires

@@ -5,7 +5,6 @@ use mathlib.Core.List.{List}
 use Prim.Native.Nat.{ℕ, ◌<◌}
 use native.Mathlib.Omega.{arith}
 use lib.ListN.{length}
-use borrow.Author.Rules.{rules}
 use Rattle.words.specs.Words.{words}
 use Rattle.slots.specs.Nodes.{Node, nodes, nth, rows_at, put_kind, back_nodes}
 use Rattle.batch_root.specs.Roots.{moved}

@@ -1,5 +1,4 @@
 -- `split_root` meets its contract: what each call asks is there, and the last leaves the model's split (`proofs/Grows`). Assumes nothing.
-use borrow.Author.Rules.{rules}
 use Rattle.batch_root.proofs.Grows.{to_move, lower_taken, lower_at, keeps_half, to_split, to_crown, upper_taken, split_done}
 use Rattle.batch_root.proofs.grow.split_root.Goals as goal
 

@@ -2,11 +2,9 @@
 use mathlib.Core.Path.{◌≡◌, refl, sym, ◌∙◌}
 use Prim.Native.Nat.{suc, ◌-◌}
 use native.Mathlib.Omega.{arith}
-use lib.ListN.{length}
 use borrow.Author.Tests.{eqb-true, eqb-false}
-use Rattle.words.specs.Words.{words}
 use Rattle.batch_root.proofs.Indexes.{keeps_root}
-use Rattle.batch_root.proofs.Sinks.{Sinking, sink_start, lone, sink_on, sink_leaf, sink_wide}
+use Rattle.batch_root.proofs.Sinks.{sink_start, lone, sink_on, sink_leaf, sink_wide}
 use Rattle.batch_root.proofs.shrink.collapse.Goals as goal
 
 pub loop-height-init : goal.loop-height-init

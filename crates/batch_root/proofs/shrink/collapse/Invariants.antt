@@ -1,12 +1,9 @@
 -- `collapse` meets its contract. The loop's invariant: the collapse from here is the collapse from the start (`Sinking`). Assumes nothing.
-use mathlib.Core.Path.{◌≡◌, refl, sym, ◌∙◌}
-use Prim.Native.Nat.{suc, ◌-◌}
-use native.Mathlib.Omega.{arith}
+use mathlib.Core.Path.{◌≡◌}
+use Prim.Native.Nat.{◌-◌}
 use lib.ListN.{length}
-use borrow.Author.Tests.{eqb-true, eqb-false}
 use Rattle.words.specs.Words.{words}
-use Rattle.batch_root.proofs.Indexes.{keeps_root}
-use Rattle.batch_root.proofs.Sinks.{Sinking, sink_start, lone, sink_on, sink_leaf, sink_wide}
+use Rattle.batch_root.proofs.Sinks.{Sinking}
 use Rattle.batch_root.proofs.shrink.collapse.Given as goal
 
 abbrev pub invariant-loop-height : goal.invariant-loop-height

@@ -1,6 +1,5 @@
 -- `lift_child` meets its contract: the root's row taken out, the child's kind, and the child joined to the root lift it (`proofs/Sinks`). Assumes nothing.
 use native.Mathlib.Omega.{arith}
-use borrow.Author.Rules.{rules}
 use Rattle.tree_spare.proofs.Spares.{spared_few}
 use Rattle.batch_root.proofs.Indexes.{keeps_root}
 use Rattle.batch_root.proofs.Sinks.{to_join, child_lifted}

@@ -1,6 +1,5 @@
 -- `renew_two` meets its contract: the second row is made new where the first was. Assumes nothing.
 use native.Mathlib.Omega.{arith}
-use borrow.Author.Rules.{rules}
 use Rattle.words.specs.Words.{words}
 use Rattle.slots.proofs.Nodes.{fits_node}
 use Rattle.batch_share.proofs.Parents.{renews_second, renewed_both}

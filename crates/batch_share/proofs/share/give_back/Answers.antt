@@ -1,7 +1,6 @@
 -- `give_back` meets its contract: the rows moved are the model's, and the two rows in the parent are made new (`Turns`). Assumes nothing.
 use mathlib.Core.Path.{sym, ◌∙◌}
 use native.Mathlib.Omega.{arith}
-use borrow.Author.Rules.{rules}
 use Rattle.batch_share.proofs.Places.{sits_row}
 use Rattle.batch_share.proofs.Turns.{apart_two, beside_few, sits_lower, sits_upper, lower_named, upper_named, moved_renews, moved_came}
 use Rattle.batch_share.proofs.Cuts.{gave_back}

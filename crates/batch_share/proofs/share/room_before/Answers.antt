@@ -1,5 +1,4 @@
 -- `room_before` meets its contract: the test is that of the sibling before the child. Assumes nothing.
-use borrow.Author.Rules.{rules}
 use Rattle.batch_share.proofs.Shares.{room_sits, room_told}
 use Rattle.batch_share.proofs.share.room_before.Goals as goal
 

@@ -1,7 +1,6 @@
 -- `share_out` meets its contract: with a sibling before it that has room the child shares first, and the walk steps back (`Shares`). Assumes nothing.
 use mathlib.Core.Path.{◌≡◌, refl, sym, ◌∙◌}
 use mathlib.Core.Bool.{true}
-use borrow.Author.Rules.{rules}
 use Rattle.words.specs.Words.{words}
 use Rattle.slots.specs.Nodes.{nodes}
 use Rattle.batch_share.specs.Children.{before_at, room_in}

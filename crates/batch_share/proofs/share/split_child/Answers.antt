@@ -1,6 +1,5 @@
 -- `split_child` meets its contract: each step does to the pool what the model's split of the child does to the family (`Splits`). Assumes nothing.
 use native.Mathlib.Omega.{arith}
-use borrow.Author.Rules.{rules}
 use Rattle.batch_share.proofs.Places.{sits_row}
 use Rattle.batch_share.proofs.Focuses.{poise_focus, focus_sits, child_named, focus_few}
 use Rattle.batch_share.proofs.Splits.{keeps_half, can_split, upper_weighs, upper_room, lower_renews, cut_taken, cut_left}

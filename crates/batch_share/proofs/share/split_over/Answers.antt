@@ -1,6 +1,5 @@
 -- `split_over` meets its contract: a child that fits stays (`fits_rowed`), and one that does not is split (`over_rowed`). Assumes nothing.
 use native.Mathlib.Omega.{arith}
-use borrow.Author.Rules.{rules}
 use Rattle.batch_share.proofs.Focuses.{poise_focus, focus_sits}
 use Rattle.batch_share.proofs.Shares.{fits_rowed, over_rowed}
 use Rattle.batch_share.proofs.share.split_over.Goals as goal

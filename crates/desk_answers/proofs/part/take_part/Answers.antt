@@ -1,6 +1,5 @@
 -- `take_part` meets its contract: the first line of the rest is kept, and answered where it ends. Assumes nothing.
 use Rattle.desk_promise.proofs.Cuts.{line_goes_on, line_ends}
-use borrow.Author.Rules.{rules}
 use Rattle.desk_answers.proofs.part.take_part.Goals as goal
 
 pub returns-then-end-rest : goal.returns-then-end-rest

@@ -1,10 +1,8 @@
 -- From any place that the loop has come to, the byte stands where it stands from the first one. Assumes nothing.
-use borrow.Author.Rules.{rules}
 use Prim.Native.Nat.{◌-◌}
-use mathlib.Core.Path.{◌≡◌, refl, sym, ◌∙◌}
+use mathlib.Core.Path.{◌≡◌}
 use lib.ListN.{length}
 use Rattle.desk_lines.specs.Lines.{end_of}
-use Rattle.desk_lines.proofs.Finds.{end_here, end_past, end_last}
 use Rattle.desk_lines.proofs.line.find.Given as goal
 
 abbrev pub invariant-loop-i : goal.invariant-loop-i

@@ -3,7 +3,6 @@ use lib.Seq.{length-take-le}
 use native.Mathlib.Omega.{arith}
 use mathlib.Core.Path.{sym}
 use Rattle.desk_lines.proofs.Finds.{line_part, end_within}
-use borrow.Author.Rules.{rules}
 use Rattle.desk_lines.proofs.line.next_line.Goals as goal
 
 pub slice_bounds-result-end : goal.slice_bounds-result-end

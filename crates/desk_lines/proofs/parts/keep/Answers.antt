@@ -1,7 +1,6 @@
 -- A part goes behind what is kept, if there is room. Assumes nothing.
 use Rattle.desk_lines.proofs.Keeps.{no_room, has_room}
 use native.Mathlib.Omega.{arith}
-use borrow.Author.Rules.{rules}
 use Rattle.desk_lines.proofs.parts.keep.Goals as goal
 
 pub returns-then-n-gt-LONGEST : goal.returns-then-n-gt-LONGEST

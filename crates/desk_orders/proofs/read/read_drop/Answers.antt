@@ -1,7 +1,6 @@
 -- `read_drop` meets its contract: what is read is the rows of a `drop`, by value. Assumes nothing.
 use mathlib.Core.Path.{refl, ◌∙◌}
 use Rattle.desk_orders.proofs.Asks.{drop_bad, drop_good}
-use borrow.Author.Rules.{rules}
 use Rattle.desk_orders.proofs.read.read_drop.Goals as goal
 
 pub returns-then-n-eq0 : goal.returns-then-n-eq0

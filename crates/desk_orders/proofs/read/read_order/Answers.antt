@@ -3,7 +3,6 @@ use Rattle.desk_orders.proofs.Asks.{begins_long, long, short, asks_set, asks_dro
 use Rattle.desk_orders.specs.Orders.{set_word, drop_word, reading_of}
 use mathlib.Core.Path.{sym, ap, ◌∙◌}
 use native.Mathlib.Omega.{arith}
-use borrow.Author.Rules.{rules}
 use Rattle.desk_orders.proofs.read.read_order.Goals as goal
 use Rattle.desk_orders.proofs.read.read_order.Goals.{then-starts-3+else-line-eq4, else-starts-3}
 

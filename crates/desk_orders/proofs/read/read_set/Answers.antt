@@ -1,7 +1,6 @@
 -- `read_set` meets its contract: what is read is the rows of a `set`, by value. Assumes nothing.
 use mathlib.Core.Path.{refl, ◌∙◌}
 use Rattle.desk_orders.proofs.Asks.{set_bad, set_good}
-use borrow.Author.Rules.{rules}
 use Rattle.desk_orders.proofs.read.read_set.Goals as goal
 
 pub returns-then-n-eq0 : goal.returns-then-n-eq0

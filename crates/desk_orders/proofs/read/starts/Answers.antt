@@ -1,9 +1,6 @@
 -- `starts` meets its contract. The loop's invariant: the line begins with the word exactly if it does so from byte i on. Assumes nothing.
-use borrow.Author.Rules.{rules}
 use Prim.Native.Nat.{◌-◌}
-use mathlib.Core.Path.{◌≡◌, refl, sym, ◌∙◌}
-use lib.ListN.{length, drop}
-use Rattle.desk_orders.specs.Orders.{begins}
+use mathlib.Core.Path.{refl, sym, ◌∙◌}
 use Rattle.desk_orders.proofs.Begins.{all, short, differs, more}
 use Rattle.desk_orders.proofs.read.starts.Goals as goal
 

@@ -1,10 +1,8 @@
 -- `starts` meets its contract. The loop's invariant: the line begins with the word exactly if it does so from byte i on. Assumes nothing.
-use borrow.Author.Rules.{rules}
 use Prim.Native.Nat.{◌-◌}
-use mathlib.Core.Path.{◌≡◌, refl, sym, ◌∙◌}
+use mathlib.Core.Path.{◌≡◌}
 use lib.ListN.{length, drop}
 use Rattle.desk_orders.specs.Orders.{begins}
-use Rattle.desk_orders.proofs.Begins.{all, short, differs, more}
 use Rattle.desk_orders.proofs.read.starts.Given as goal
 
 abbrev pub invariant-loop-i : goal.invariant-loop-i

@@ -3,7 +3,7 @@ use borrow.Author.Rules.{rules}
 use Prim.Native.Nat.{◌-◌, ◌≤◌}
 use mathlib.Core.Path.{sym, subst}
 use Rattle.desk_lines.proofs.Finds.{end_from, end_within}
-use Rattle.desk_rows.proofs.Spelt.{Spelling, spelling, spelt_more, spelt_bad, spelt_done, spelt_small, number_empty, number_long}
+use Rattle.desk_rows.proofs.Spelt.{spelling, spelt_more, spelt_bad, spelt_done, spelt_small, number_empty, number_long}
 use Rattle.desk_rows.proofs.digits.read_number.Goals as goal
 
 pub returns-then-end-from : goal.returns-then-end-from

@@ -1,9 +1,6 @@
 -- `read_number` meets its contract. The loop's invariant: `value` is the number that the digits before place i spell (`Spelling`). Assumes nothing.
-use borrow.Author.Rules.{rules}
-use Prim.Native.Nat.{◌-◌, ◌≤◌}
-use mathlib.Core.Path.{sym, subst}
-use Rattle.desk_lines.proofs.Finds.{end_from, end_within}
-use Rattle.desk_rows.proofs.Spelt.{Spelling, spelling, spelt_more, spelt_bad, spelt_done, spelt_small, number_empty, number_long}
+use Prim.Native.Nat.{◌-◌}
+use Rattle.desk_rows.proofs.Spelt.{Spelling}
 use Rattle.desk_rows.proofs.digits.read_number.Given as goal
 
 abbrev pub invariant-loop-i : goal.invariant-loop-i

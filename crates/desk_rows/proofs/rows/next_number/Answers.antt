@@ -1,7 +1,6 @@
 -- `next_number` meets its contract: where the line goes on, a space ends the field, and the next one begins behind it. Assumes nothing.
 use native.Mathlib.Omega.{arith}
 use Rattle.desk_rows.proofs.Fields.{next_none, next_is}
-use borrow.Author.Rules.{rules}
 use Rattle.desk_rows.proofs.rows.next_number.Goals as goal
 
 pub returns-then-end-line : goal.returns-then-end-line

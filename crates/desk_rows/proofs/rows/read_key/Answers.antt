@@ -2,7 +2,6 @@
 use Rattle.desk_rows.proofs.Fields.{key_bad, key_good}
 use Rattle.desk_rows.specs.Numbers.{NumberAt}
 use mathlib.Core.Path.{subst}
-use borrow.Author.Rules.{rules}
 use Rattle.desk_rows.proofs.rows.read_key.Goals as goal
 
 pub returns-in-Bad : goal.returns-in-Bad

@@ -1,7 +1,6 @@
 -- `read_row` meets its contract: a triple or a key, as is asked for. Assumes nothing.
 use Rattle.desk_rows.specs.Numbers.{RowAt}
 use mathlib.Core.Path.{sym, subst}
-use borrow.Author.Rules.{rules}
 use Rattle.desk_rows.proofs.rows.read_row.Goals as goal
 
 pub returns-then-triples : goal.returns-then-triples

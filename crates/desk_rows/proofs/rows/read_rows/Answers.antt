@@ -1,11 +1,10 @@
 -- `read_rows` meets its contract. The loop's invariant: the rows up to `at` are read (`SoFar`). Assumes nothing.
 use borrow.Author.Rules.{rules}
 use native.Mathlib.Omega.{arith}
-use Prim.Native.Nat.{◌-◌, ◌+◌}
-use lib.ListN.{length}
+use Prim.Native.Nat.{◌-◌}
 use mathlib.Core.Path.{refl, sym, ◌∙◌, subst}
 use Rattle.desk_rows.specs.Numbers.{RowAt}
-use Rattle.desk_rows.proofs.Fields.{SoFar, none_yet, rows_bad, rows_more, rows_done}
+use Rattle.desk_rows.proofs.Fields.{none_yet, rows_bad, rows_more, rows_done}
 use Rattle.desk_rows.proofs.rows.read_rows.Goals as goal
 
 pub loop-at-init : goal.loop-at-init

@@ -1,11 +1,10 @@
 -- `contents_at` meets its contract. The loop's invariant: the first j rows are entered, and `child` counts the nodes before the next child. Assumes nothing.
 use mathlib.Core.List.{List, [], ◌∷◌, ◌++◌}
 use mathlib.Core.Path.{◌≡◌, sym, ap, subst, ◌∙◌}
-use Prim.Native.Nat.{◌+◌, ◌-◌, ◌≤◌, ◌<◌}
+use Prim.Native.Nat.{◌+◌, ◌-◌, ◌<◌}
 use native.Mathlib.Omega.{arith}
 use lib.Seq.{take_all, length-take-le}
 use lib.ListN.{length, take, get_or, set, replicate}
-use borrow.Author.Rules.{rules}
 use Rattle.words.specs.Words.{words}
 use Rattle.slots.specs.Nodes.{nodes, nth}
 use Rattle.slots_raw.specs.Slots.{blank}

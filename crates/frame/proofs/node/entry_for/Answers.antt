@@ -1,6 +1,5 @@
 -- `entry_for` meets its contract: its test is the definition's. Assumes nothing.
 use mathlib.Core.Path.{ap, ◌∙◌}
-use borrow.Author.Rules.{rules}
 use Rattle.model.specs.declared.Totals.{Totals}
 use Rattle.frame_text.specs.Contents.{of_entry, of_branch}
 use Rattle.frame.proofs.Noded.{entry_low, entry_high}

@@ -1,5 +1,4 @@
 -- `kind_at` meets its contract: its test is the definition's. Assumes nothing.
-use borrow.Author.Rules.{rules}
 use Rattle.frame.proofs.Noded.{kind_high}
 use Rattle.frame.proofs.node.kind_at.Goals as goal
 

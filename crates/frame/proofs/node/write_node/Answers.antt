@@ -1,6 +1,5 @@
 -- `write_node` meets its contract: the walk finds node i or tells that there is none, and the node's entries are its frame's. Assumes nothing.
 use mathlib.Core.Path.{subst}
-use borrow.Author.Rules.{rules}
 use Rattle.words.specs.Words.{words}
 use Rattle.frame.specs.Promises.{Located}
 use Rattle.frame.specs.declared.Found.{Found}

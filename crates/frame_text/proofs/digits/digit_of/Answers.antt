@@ -1,6 +1,5 @@
 -- `digit_of` meets its contract: its test is the definition's. Assumes nothing.
 use borrow.Author.Tests.{lt-ltb, le-ltb}
-use borrow.Author.Rules.{rules}
 use Rattle.frame_text.proofs.digits.digit_of.Goals as goal
 
 pub returns-then-d-lt10 : goal.returns-then-d-lt10

@@ -1,11 +1,8 @@
 -- `number` meets its contract. The loop's invariant: n is the number that k bytes spell, so it is below 256 ^ k. Assumes nothing.
-use mathlib.Core.Path.{◌≡◌, refl, ap, ◌∙◌}
-use Prim.Native.Nat.{ℕ, ◌-◌, ◌^◌, ◌≤◌, ◌<◌}
-use native.Mathlib.Omega.{arith}
-use borrow.Author.Rules.{rules}
+use mathlib.Core.Path.{◌≡◌}
+use Prim.Native.Nat.{◌-◌, ◌^◌, ◌≤◌, ◌<◌}
 use Rattle.model.specs.ReadFrame.{field}
 use Rattle.frame_text.specs.Digits.{pairs}
-use Rattle.frame_text.proofs.Spelt.{byte_more, eight_bytes, number_more, number_below}
 use Rattle.frame_text.proofs.digits.number.Given as goal
 
 abbrev pub invariant-loop-k : goal.invariant-loop-k

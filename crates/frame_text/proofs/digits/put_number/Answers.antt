@@ -1,10 +1,9 @@
 -- `put_number` meets its contract. The loop's invariant: the bytes from k on are written, and `rest` is what lies over them. Assumes nothing.
 use mathlib.Core.Path.{◌≡◌, refl, sym, ap, ◌∙◌}
-use Prim.Native.Nat.{ℕ, ◌+◌, ◌-◌, ◌/◌, ◌^◌, ◌≤◌}
+use Prim.Native.Nat.{ℕ, ◌+◌, ◌-◌, ◌/◌, ◌^◌}
 use native.Mathlib.Nat.{div-one}
 use native.Mathlib.Omega.{arith}
-use lib.ListN.{length, length-set}
-use borrow.Author.Rules.{rules}
+use lib.ListN.{length-set}
 use Rattle.model.specs.Frame.{bytes}
 use Rattle.frame_text.specs.Digits.{spelled}
 use Rattle.frame_text.proofs.Lines.{spelled_none, number_more, rest_more}

@@ -1,6 +1,5 @@
 -- `value_of` meets its contract, by the ranges of a byte. Assumes nothing.
 use native.Mathlib.Omega.{arith}
-use borrow.Author.Rules.{rules}
 use Rattle.frame_text.proofs.Spelt.{value_low, value_decimal, value_middle, value_letter, value_high}
 use Rattle.frame_text.proofs.digits.value_of.Goals as goal
 

@@ -1,10 +1,7 @@
 -- `ascending` meets its contract. The loop's invariant: the keys rise exactly if they rise from place i - 1 on. Assumes nothing.
-use mathlib.Core.List.{map}
-use mathlib.Core.Path.{◌≡◌, refl, sym, ap, ◌∙◌}
-use Prim.Native.Nat.{◌-◌, ◌≤◌}
+use mathlib.Core.Path.{refl, sym, ap, ◌∙◌}
+use Prim.Native.Nat.{◌-◌}
 use native.Mathlib.Omega.{arith}
-use lib.ListN.{drop}
-use borrow.Author.Rules.{rules}
 use Rattle.model.specs.Frame.{rising}
 use Rattle.frame_text.specs.Contents.{first}
 use Rattle.frame_text.proofs.Coded.{keys_framed, keys_fall, keys_rise, keys_end}

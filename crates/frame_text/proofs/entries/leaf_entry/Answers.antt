@@ -1,6 +1,5 @@
 -- `leaf_entry` meets its contract: the totals are those of no entries. Assumes nothing.
 use mathlib.Core.Path.{ap}
-use borrow.Author.Rules.{rules}
 use Rattle.model.specs.declared.Totals.{Totals}
 use Rattle.frame_text.proofs.entries.leaf_entry.Goals as goal
 

@@ -1,7 +1,6 @@
 -- `start_of` meets its contract, kind by kind. Assumes nothing.
 use mathlib.Core.Path.{sym, ap}
 use native.Mathlib.Omega.{arith}
-use borrow.Author.Rules.{rules}
 use Rattle.frame_text.specs.Entries.{start_of}
 use Rattle.frame_text.specs.declared.Kind.{Kind}
 use Rattle.frame_text.proofs.entries.start_of.Goals as goal

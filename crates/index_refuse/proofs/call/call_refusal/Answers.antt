@@ -1,7 +1,6 @@
 -- `call_refusal` meets its contract: its tests are the first rows of the model's table in order, so the first that applies is the model's number, and
 -- where none does it is 0. Assumes nothing.
 use mathlib.Core.Path.{sym, ◌∙◌}
-use borrow.Author.Rules.{rules}
 use Rattle.model.specs.Refuse.{Call}
 use Rattle.index_refuse.proofs.Refuses.{call_3, call_4, call_5, call_passed}
 use Rattle.index_refuse.proofs.call.call_refusal.Goals as goal

@@ -1,11 +1,8 @@
 -- `descends` meets its contract. The loop's invariant: all keys descend just if those from the one before this one on do. Assumes nothing.
-use mathlib.Core.Path.{◌≡◌, refl, sym, ◌∙◌}
+use mathlib.Core.Path.{◌≡◌}
 use Prim.Native.Nat.{◌-◌, ◌≤◌}
-use native.Mathlib.Omega.{arith}
 use lib.ListN.{length, drop}
-use borrow.Author.Rules.{rules}
 use Rattle.model.specs.Refuse.{descend}
-use Rattle.index_refuse.proofs.Refuses.{falls, rises, last}
 use Rattle.index_refuse.proofs.call.descends.Given as goal
 
 abbrev pub invariant-loop-i : goal.invariant-loop-i

@@ -1,7 +1,6 @@
 -- `miscounted` meets its contract: only where each key brings its own reference are the two numbers compared with that of the keys. Assumes nothing.
 use mathlib.Core.Path.{refl, sym, ◌∙◌}
 use borrow.Author.Tests.{eq-eqb, ne_eqb}
-use borrow.Author.Rules.{rules}
 use Rattle.index_refuse.proofs.call.miscounted.Goals as goal
 
 pub returns-then-places-n : goal.returns-then-places-n

@@ -1,7 +1,6 @@
 -- `exempt` meets its contract: the test of no keys is the model's first, and where it fails the answer is whether the batch removes. Assumes nothing.
 use mathlib.Core.Path.{refl}
 use borrow.Author.Tests.{eq-eqb, ne_eqb}
-use borrow.Author.Rules.{rules}
 use Rattle.index_refuse.proofs.room.exempt.Goals as goal
 
 pub returns-then-n-eq0 : goal.returns-then-n-eq0

@@ -1,7 +1,6 @@
 -- `tree_refusal` meets its contract: its tests are the last rows of the model's table in order, of a batch that they look at. Assumes nothing.
 use mathlib.Core.Path.{◌≡◌, sym, ◌∙◌}
 use mathlib.Core.Bool.{false}
-use borrow.Author.Rules.{rules}
 use Rattle.index_refuse.specs.Refusals.{exempts}
 use Rattle.index_refuse.proofs.Refuses.{tree_exempt, tree_6, tree_7, tree_passed}
 use Rattle.index_refuse.proofs.room.tree_refusal.Goals as goal

@@ -1,6 +1,5 @@
 -- `get` meets its contract: a sound pool can be searched, and the page that is filled shows what the model lists. Assumes nothing.
 use native.Mathlib.Omega.{arith}
-use borrow.Author.Rules.{rules}
 use Rattle.look.proofs.Sounds.{pool_grown, pool_got}
 use Rattle.look.proofs.calls.get.Goals as goal
 

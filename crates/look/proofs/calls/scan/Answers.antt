@@ -1,5 +1,4 @@
 -- `scan` meets its contract: a sound pool can be walked, and the walk lists and counts what the model does. Assumes nothing.
-use borrow.Author.Rules.{rules}
 use Rattle.look.proofs.Sounds.{pool_scan, pool_scanned, pool_opened}
 use Rattle.look.proofs.calls.scan.Goals as goal
 

@@ -1,17 +1,16 @@
 -- `get_keys` meets its contract. The loop's invariant: the keys that are left, listed on this page, give what all of them give on the first. Assumes
 -- nothing.
-use mathlib.Core.Path.{◌≡◌, refl, sym, ap, ◌∙◌}
-use Prim.Native.Nat.{suc, ◌+◌, ◌-◌, ◌≤◌}
+use mathlib.Core.Path.{refl, sym, ap, ◌∙◌}
+use Prim.Native.Nat.{suc, ◌+◌, ◌-◌}
 use native.Mathlib.Omega.{arith}
-use lib.ListN.{length, drop}
-use borrow.Author.Rules.{rules}
+use lib.ListN.{drop}
 use borrow.Author.Tests.{not-true, not-false}
 use Rattle.words.specs.Words.{words}
 use Rattle.slots.specs.Nodes.{nodes}
 use Rattle.model.specs.Tree.{entries}
 use Rattle.model.specs.Look.{found}
 use Rattle.tree.specs.Bridge.{tree_at}
-use Rattle.look_output.specs.Output.{page, enlist_all, fresh_page}
+use Rattle.look_output.specs.Output.{page, enlist_all}
 use Rattle.look_output.proofs.Outputs.{ended}
 use Rattle.look.proofs.Descents.{keys_next, keys_end}
 use Rattle.look.proofs.lookup.get_keys.Goals as goal

@@ -1,19 +1,14 @@
 -- `get_keys` meets its contract. The loop's invariant: the keys that are left, listed on this page, give what all of them give on the first. Assumes
 -- nothing.
-use mathlib.Core.Path.{◌≡◌, refl, sym, ap, ◌∙◌}
-use Prim.Native.Nat.{suc, ◌+◌, ◌-◌, ◌≤◌}
-use native.Mathlib.Omega.{arith}
+use mathlib.Core.Path.{◌≡◌}
+use Prim.Native.Nat.{suc, ◌-◌, ◌≤◌}
 use lib.ListN.{length, drop}
-use borrow.Author.Rules.{rules}
-use borrow.Author.Tests.{not-true, not-false}
 use Rattle.words.specs.Words.{words}
 use Rattle.slots.specs.Nodes.{nodes}
 use Rattle.model.specs.Tree.{entries}
 use Rattle.model.specs.Look.{found}
 use Rattle.tree.specs.Bridge.{tree_at}
 use Rattle.look_output.specs.Output.{page, enlist_all, fresh_page}
-use Rattle.look_output.proofs.Outputs.{ended}
-use Rattle.look.proofs.Descents.{keys_next, keys_end}
 use Rattle.look.proofs.lookup.get_keys.Given as goal
 
 abbrev pub invariant-loop-k : goal.invariant-loop-k

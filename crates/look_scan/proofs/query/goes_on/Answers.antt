@@ -1,6 +1,5 @@
 -- `goes_on` meets its contract, direction by direction. Assumes nothing.
 use mathlib.Core.Path.{sym, ap, ◌∙◌}
-use borrow.Author.Rules.{rules}
 use Rattle.model.specs.declared.Direction.{Direction}
 use Rattle.look_scan.specs.Walk.{goes_on_by}
 use Rattle.look_scan.proofs.query.goes_on.Goals as goal

@@ -1,7 +1,6 @@
 -- `is_due` meets its contract: its tests are those of the definition, in that order. Assumes nothing.
 use mathlib.Core.Path.{◌≡◌, refl, sym, ap, ◌∙◌}
 use mathlib.Core.Bool.{true, false}
-use borrow.Author.Rules.{rules}
 use borrow.Author.Tests.{not-true, not-false}
 use Rattle.model.specs.Tree.{is_mark}
 use Rattle.model.specs.Look.{starts, ends}

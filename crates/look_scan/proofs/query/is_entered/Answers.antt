@@ -1,7 +1,6 @@
 -- `is_entered` meets its contract: its tests are those of the definition. Assumes nothing.
 use mathlib.Core.Path.{◌≡◌, refl, sym, ap, ◌∙◌}
 use mathlib.Core.Bool.{true, false}
-use borrow.Author.Rules.{rules}
 use borrow.Author.Tests.{not-true, not-false}
 use lib.Dec.{leb}
 use Rattle.model.specs.Look.{starts, least, figure}

@@ -2,7 +2,6 @@
 use mathlib.Core.Path.{ap}
 use Prim.Native.Nat.{ℕ}
 use lib.Dec.{leb}
-use borrow.Author.Rules.{rules}
 use Rattle.look_scan.proofs.query.is_large.Goals as goal
 
 pub returns : goal.returns

@@ -1,7 +1,6 @@
 -- `place_in` meets its contract, direction by direction. Assumes nothing.
 use mathlib.Core.Path.{sym, ap}
 use native.Mathlib.Omega.{arith}
-use borrow.Author.Rules.{rules}
 use Rattle.model.specs.declared.Direction.{Direction}
 use Rattle.look_scan.specs.Walk.{place_in}
 use Rattle.look_scan.proofs.query.place_in.Goals as goal

@@ -1,6 +1,5 @@
 -- `slot_zero` meets its contract: the words that it tests are those of slot `s` (`slot_tells`). Assumes nothing.
 use native.Mathlib.Omega.{arith}
-use borrow.Author.Rules.{rules}
 use Rattle.words.specs.Words.{words}
 use Rattle.slots_pool.proofs.Zeros.{slot_tells}
 use Rattle.slots_pool.proofs.blanks.slot_zero.Goals as goal

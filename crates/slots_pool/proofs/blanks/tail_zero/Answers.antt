@@ -1,5 +1,4 @@
 -- `tail_zero` meets its contract: the words that it tests are the rows from row `n` on (`tail_tells`). Assumes nothing.
-use borrow.Author.Rules.{rules}
 use Rattle.words.specs.Words.{words}
 use Rattle.slots_pool.proofs.Zeros.{tail_tells}
 use Rattle.slots_pool.proofs.blanks.tail_zero.Goals as goal

@@ -5,7 +5,6 @@ use native.Mathlib.Omega.{arith}
 use lib.ListN.{get_or}
 use Rattle.words.specs.Words.{words}
 use Rattle.words.proofs.Laws.{length_words}
-use borrow.Author.Rules.{rules}
 use Rattle.slots_pool.proofs.header.limits_at.Goals as goal
 
 pub overflow_add-i : goal.overflow_add-i

@@ -12,7 +12,6 @@ use Rattle.slots.specs.Nodes.{unused}
 use Rattle.slots_pool.specs.Header.{header_of}
 use Rattle.slots_pool.specs.Image.{image}
 use Rattle.slots_pool.proofs.Fresh.{blank_words, both_held, blank_held, new_words}
-use borrow.Author.Rules.{rules}
 use Rattle.slots_pool.proofs.header.open_pool.Goals as goal
 
 pub clear-requires : goal.clear-requires

@@ -5,7 +5,6 @@ use Rattle.model.specs.declared.Settings.{Settings}
 use Rattle.model.proofs.Layers.{handed_root}
 use Rattle.slots.specs.Nodes.{leaf_kind, nodes, put_kind}
 use Rattle.slots.specs.Promises.{ToTouch, NodesPut}
-use borrow.Author.Rules.{rules}
 use Rattle.slots_pool.proofs.header.plant.Goals as goal
 
 pub set_kind-requires : goal.set_kind-requires

@@ -2,7 +2,6 @@
 use mathlib.Core.Path.{sym, ◌∙◌}
 use borrow.Author.Tests.{eqb-true, eq-eqb}
 use Rattle.model.proofs.Answers.{tells_no}
-use borrow.Author.Rules.{rules}
 use Rattle.slots_pool.proofs.header.reserved_zero.Goals as goal
 
 pub returns-then-get-ne0 : goal.returns-then-get-ne0

@@ -1,6 +1,4 @@
 -- `settings` meets its contract: its answer is the words that it reads. Assumes nothing.
-use native.Mathlib.Omega.{arith}
-use borrow.Author.Rules.{rules}
 use Rattle.slots_pool.proofs.header.settings.Goals as goal
 
 pub returns : goal.returns

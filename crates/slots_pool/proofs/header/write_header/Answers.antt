@@ -7,7 +7,6 @@ use lib.ListN.{set}
 use Rattle.words.specs.Words.{words}
 use Rattle.words.proofs.Laws.{length_words}
 use Rattle.slots_pool.proofs.Fresh.{limits_put, header_put}
-use borrow.Author.Rules.{rules}
 use Rattle.slots_pool.proofs.header.write_header.Goals as goal
 
 pub write_limits-requires : goal.write_limits-requires

@@ -7,7 +7,7 @@ use borrow.Author.Tests.{not-true, not-false}
 use Rattle.words.specs.Words.{words}
 use Rattle.slots.proofs.Nodes.{kind_node}
 use Rattle.model.proofs.Answers.{tells_no, told_no}
-use Rattle.survey.proofs.Sweeps.{Swept, swept_none, swept_unused, swept_used, swept_end}
+use Rattle.survey.proofs.Sweeps.{swept_none, swept_unused, swept_used, swept_end}
 use Rattle.survey.proofs.spares.survey_slots.Goals as goal
 
 pub loop-s-init : goal.loop-s-init

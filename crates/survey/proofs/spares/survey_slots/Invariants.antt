@@ -1,13 +1,7 @@
 -- `survey_slots` meets its contract. The loop's invariant: from slot `s` on all is told (`Swept`). Assumes nothing.
-use mathlib.Core.Path.{◌≡◌, sym, ◌∙◌}
-use mathlib.Core.Bool.{true, false, true≢false}
 use Prim.Native.Nat.{◌-◌}
-use native.Mathlib.Omega.{arith}
-use borrow.Author.Tests.{not-true, not-false}
 use Rattle.words.specs.Words.{words}
-use Rattle.slots.proofs.Nodes.{kind_node}
-use Rattle.model.proofs.Answers.{tells_no, told_no}
-use Rattle.survey.proofs.Sweeps.{Swept, swept_none, swept_unused, swept_used, swept_end}
+use Rattle.survey.proofs.Sweeps.{Swept}
 use Rattle.survey.proofs.spares.survey_slots.Given as goal
 
 abbrev pub invariant-loop-s : goal.invariant-loop-s

@@ -2,10 +2,9 @@
 -- from row `i` on is what it owed at the start (`Going`). Assumes nothing.
 use mathlib.Core.Path.{◌≡◌, sym, ap, ◌∙◌, subst}
 use mathlib.Core.List.{List}
-use Prim.Native.Nat.{ℕ, suc, ◌+◌, ◌-◌, ◌*◌, ◌<◌}
+use Prim.Native.Nat.{ℕ, suc, ◌-◌, ◌<◌}
 use native.Mathlib.Omega.{arith}
 use lib.ListN.{length, get_or}
-use borrow.Author.Rules.{rules}
 use borrow.Author.Tests.{not-true, not-false}
 use Rattle.words.specs.Words.{words}
 use Rattle.slots_raw.specs.declared.Row.{Row}
@@ -19,7 +18,7 @@ use Rattle.survey_node.specs.declared.Part.{Part}
 use Rattle.survey_node.specs.Parts.{last}
 use Rattle.survey_node.specs.Promises.{There, Head, Tail, Opened, Right, Checked, RowRight}
 use Rattle.survey_node.proofs.Rows.{right_rows, right_opened, right_tail}
-use Rattle.survey_node.proofs.Walks.{Going, going_none, checked_not, checked_end, turn_fault, turn_addable, turn_on}
+use Rattle.survey_node.proofs.Walks.{going_none, checked_not, checked_end, turn_fault, turn_addable, turn_on}
 use Rattle.survey_node.proofs.Heads.{row_raw, head_count, tail_told}
 use Rattle.survey.proofs.walk.+check_interior_check_node.Goals as goal
 

@@ -1,7 +1,6 @@
 -- `first_child` meets its contract: the first row is the one that is read, where there is a row. Assumes nothing.
 use mathlib.Core.Path.{sym, ap, ◌∙◌}
 use native.Mathlib.Omega.{arith}
-use borrow.Author.Rules.{rules}
 use Rattle.words.specs.Words.{words}
 use Rattle.tree.specs.Bridge.{child_of}
 use Rattle.survey_node.proofs.Heads.{first_none, first_raw}

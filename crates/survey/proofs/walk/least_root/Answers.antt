@@ -1,7 +1,6 @@
 -- `least_root` meets its contract: its test is the definition's. Assumes nothing.
 use mathlib.Core.Path.{◌≡◌, refl}
 use Prim.Native.Nat.{ℕ, zero, suc}
-use borrow.Author.Rules.{rules}
 use Rattle.survey_node.specs.Parts.{least_root}
 use Rattle.survey.proofs.walk.least_root.Goals as goal
 

@@ -1,16 +1,9 @@
 -- `left_edge` meets its contract. The loop's invariant: the height from the root is the steps taken and the height from here. Assumes nothing.
-use mathlib.Core.Path.{◌≡◌, sym, ap, ◌∙◌}
-use mathlib.Core.List.{List}
-use Prim.Native.Nat.{ℕ, suc, ◌+◌, ◌-◌, ◌≤◌}
-use native.Mathlib.Omega.{arith}
-use lib.ListN.{length}
-use borrow.Author.Rules.{rules}
+use mathlib.Core.Path.{◌≡◌}
+use Prim.Native.Nat.{◌+◌, ◌-◌, ◌≤◌}
 use Rattle.words.specs.Words.{words}
-use Rattle.slots.specs.Nodes as S
-use Rattle.slots.specs.Nodes.{nodes, nth}
-use Rattle.slots.proofs.Nodes.{kind_node, length_nodes}
+use Rattle.slots.specs.Nodes.{nodes}
 use Rattle.tree.specs.Pool.{height_at}
-use Rattle.survey.proofs.Edges.{edge_end, edge_past, edge_down}
 use Rattle.survey.proofs.walk.left_edge.Given as goal
 
 abbrev pub invariant-loop-height : goal.invariant-loop-height

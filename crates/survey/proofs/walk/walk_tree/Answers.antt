@@ -1,6 +1,5 @@
 -- `walk_tree` meets its contract: what the walk from the root tells (`verdict`). Assumes nothing.
 use native.Mathlib.Omega.{arith}
-use borrow.Author.Rules.{rules}
 use borrow.Author.Tests.{not-true, not-false}
 use Rattle.words.specs.Words.{words}
 use Rattle.model.proofs.Answers.{told_no}

@@ -2,7 +2,6 @@
 use mathlib.Core.Path.{◌≡◌}
 use lib.ListN.{length}
 use Prim.Native.Nat.{◌-◌}
-use borrow.Author.Rules.{rules}
 use Rattle.trial_calls.proofs.batches.narrow.Given as goal
 
 abbrev pub invariant-loop-j : goal.invariant-loop-j

@@ -2,7 +2,6 @@
 use native.Mathlib.Omega.{arith}
 use mathlib.Core.Path.{sym}
 use lib.Seq.{length-take-le}
-use borrow.Author.Rules.{rules}
 use Rattle.trial_calls.proofs.batches.set_to.Goals as goal
 
 pub slice_bounds-batch-end : goal.slice_bounds-batch-end

@@ -1,5 +1,5 @@
 -- `put_words` is safe and ends: it takes one of eight words a turn. Assumes nothing.
-use Rattle.std.proofs.Common.{◌≡◌, ◌-◌, length, rules}
+use Rattle.std.proofs.Common.{◌≡◌, ◌-◌, length}
 use Rattle.trial_damage.proofs.twice.put_words.Given as goal
 
 abbrev pub invariant-loop-i : goal.invariant-loop-i

@@ -1,5 +1,5 @@
 -- `below` is safe and ends: a number a turn. Assumes nothing.
-use Rattle.std.proofs.Common.{◌-◌, rules}
+use Rattle.std.proofs.Common.{◌-◌}
 use Rattle.trial_lines.proofs.form.below.Given as goal
 
 abbrev pub invariant-loop-j : goal.invariant-loop-j

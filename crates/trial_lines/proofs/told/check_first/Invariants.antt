@@ -1,5 +1,5 @@
 -- `check_first` is safe and ends: a byte a turn. Assumes nothing.
-use Rattle.std.proofs.Common.{◌-◌, rules}
+use Rattle.std.proofs.Common.{◌-◌}
 use Rattle.trial_lines.proofs.told.check_first.Given as goal
 
 abbrev pub invariant-loop-j : goal.invariant-loop-j

@@ -1,5 +1,5 @@
 -- `check_word` is safe and ends: a byte of the word a turn. Assumes nothing.
-use Rattle.std.proofs.Common.{◌-◌, rules}
+use Rattle.std.proofs.Common.{◌-◌}
 use Rattle.trial_lines.proofs.told.check_word.Given as goal
 
 abbrev pub invariant-loop : goal.invariant-loop

@@ -1,5 +1,5 @@
 -- `same` is safe and ends: one of six answers a turn. Assumes nothing.
-use Rattle.std.proofs.Common.{◌-◌, rules}
+use Rattle.std.proofs.Common.{◌-◌}
 use Rattle.trial_lines.proofs.told.same.Given as goal
 
 abbrev pub invariant-loop-j : goal.invariant-loop-j

@@ -1,5 +1,5 @@
 -- `order_allows` is safe and ends: a slot a turn, and a word is read from anywhere. Assumes nothing.
-use Rattle.std.proofs.Common.{◌-◌, rules}
+use Rattle.std.proofs.Common.{◌-◌}
 use Rattle.trial_rules.proofs.header.order_allows.Given as goal
 
 abbrev pub invariant-loop-s : goal.invariant-loop-s
