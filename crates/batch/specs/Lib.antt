@@ -1,2 +1,2 @@
--- `Contracts` has what a batch asks of a pool, and what it leaves.
+-- `Promises` has what a batch asks of a pool, and what it leaves.
 pub mod Promises

@@ -1,2 +1,2 @@
--- `Contracts` has what changing a node asks and answers.
+-- `Promises` has what changing a node asks and answers.
 pub mod Promises

@@ -1,3 +1,3 @@
--- `Roots` has the index at the root of a pool and what becomes of it, `Contracts` what each function on the root asks and promises.
+-- `Roots` has the index at the root of a pool and what becomes of it, `Promises` what each function on the root asks and promises.
 pub mod Roots
 pub mod Promises

@@ -1,4 +1,4 @@
--- `Frames` says what a frame tells of rows and trees, `Contracts` what the walk over a pool's slots asks and finds, `Undo` what follows from the
+-- `Frames` says what a frame tells of rows and trees, `Promises` what the walk over a pool's slots asks and finds, `Undo` what follows from the
 -- promises of writing and reading.
 pub mod Frames
 pub mod Promises

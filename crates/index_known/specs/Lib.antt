@@ -1,2 +1,2 @@
--- `Contracts` says what is known of a tree of a pool.
+-- `Promises` says what is known of a tree of a pool.
 pub mod Promises

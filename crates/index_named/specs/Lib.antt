@@ -1,2 +1,2 @@
--- `Contracts` says what is found of the tree that a call names.
+-- `Promises` says what is found of the tree that a call names.
 pub mod Promises

@@ -1,3 +1,3 @@
--- `Plan` says what is planned of a tree, `Contracts` what the functions ask.
+-- `Plan` says what is planned of a tree, `Promises` what the functions ask.
 pub mod Plan
 pub mod Promises

@@ -1,2 +1,2 @@
--- `Contracts` has what the calls ask and promise.
+-- `Promises` has what the calls ask and promise.
 pub mod Promises

@@ -1,4 +1,4 @@
--- `Portion` says what a portion is, `Readings` works some out; `Contracts` has what a function here promises.
+-- `Portion` says what a portion is, `Readings` works some out; `Promises` has what a function here promises.
 pub mod Portion
 pub mod Promises
 pub mod Readings

@@ -1,4 +1,4 @@
--- Document 01 as definitions, one idea a file. `Sound`, `Demands`, `TwoTrees` and `LiveSizes` say what is proved of them, in proofs/; `Contracts` has
+-- Document 01 as definitions, one idea a file. `Sound`, `Demands`, `TwoTrees` and `LiveSizes` say what is proved of them, in proofs/; `Promises` has
 -- the words of the inner crates' contracts.
 pub mod Lists
 pub mod Tree

@@ -1,3 +1,3 @@
--- `Build` has the pieces that are built, `Contracts` what building asks and leaves.
+-- `Build` has the pieces that are built, `Promises` what building asks and leaves.
 pub mod Build
 pub mod Promises

@@ -1,3 +1,3 @@
--- `Nodes` reads slots as nodes, `Contracts` has what the functions ask and say.
+-- `Nodes` reads slots as nodes, `Promises` has what the functions ask and say.
 pub mod Nodes
 pub mod Promises

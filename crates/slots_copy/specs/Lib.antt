@@ -1,2 +1,2 @@
--- `Contracts` has what the function asks.
+-- `Promises` has what the function asks.
 pub mod Promises

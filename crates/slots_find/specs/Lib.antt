@@ -1,3 +1,3 @@
--- `Search` says where a key stands among rows, `Contracts` has what the functions ask and say.
+-- `Search` says where a key stands among rows, `Promises` has what the functions ask and say.
 pub mod Search
 pub mod Promises

@@ -1,4 +1,4 @@
--- `Over` has two words on lists, `Slots` cuts the words of a pool into slots, `Contracts` has what the functions ask and say.
+-- `Over` has two words on lists, `Slots` cuts the words of a pool into slots, `Promises` has what the functions ask and say.
 pub mod Over
 pub mod Slots
 pub mod Promises

@@ -1,3 +1,3 @@
--- `Parts` has what the walk over a tree carries, `Contracts` what it tells of a node, and what of a whole tree.
+-- `Parts` has what the walk over a tree carries, `Promises` what it tells of a node, and what of a whole tree.
 pub mod Parts
 pub mod Promises

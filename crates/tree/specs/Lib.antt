@@ -1,5 +1,5 @@
 -- `Bridge` says what a row means and which nodes hold which tree, `Sums` what the rows of a node add up to, `Pool` what a sound pool is,
--- `Contracts` what the functions on rows and nodes ask, what opening a pool promises, and what is known of a pool that is
+-- `Promises` what the functions on rows and nodes ask, what opening a pool promises, and what is known of a pool that is
 -- looked into.
 pub mod Bridge
 pub mod Sums

@@ -1,3 +1,3 @@
--- `Rank` says how many entries rows stand for, `Contracts` has what the functions ask and say.
+-- `Rank` says how many entries rows stand for, `Promises` has what the functions ask and say.
 pub mod Rank
 pub mod Promises
