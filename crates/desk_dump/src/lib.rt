@@ -2,7 +2,7 @@
 #![tactic(auto)]
 
 ghost use Rattle.std.specs.Prelude.{◌≡◌, length};
-ghost use Rattle.desk_orders.specs.Orders.{dump as dump-order};
+ghost use Rattle.desk_orders.specs.Orders.{dump as dump_order};
 ghost use Rattle.desk_promise.specs.Promise.{Replies};
 
 use desk_promise::TREE;
@@ -14,7 +14,7 @@ const NO_NODE: u32 = 14;
 // Writes the frames into the first bytes of a text, and tells their length. A pool of 3,392 bytes has at most 16 nodes, and its frames
 // have room in 4,096.
 pub fn dump(pool: &[u8; 3392], text: &mut [u8; 4096]) -> usize
-    ensures { Replies dump-order pool.now text.old
+    ensures { Replies dump_order pool.now text.old
         (record { count = result; pool = pool.now; text = text.new }) }
 {
     show(pool, text)
@@ -23,7 +23,7 @@ pub fn dump(pool: &[u8; 3392], text: &mut [u8; 4096]) -> usize
 // The frames one after the other, of a pool and into a text of these lengths.
 fn show(pool: &[u8], text: &mut [u8]) -> usize
     requires { (length pool.now ≡ 3392) × (length text.old ≡ 4096) }
-    ensures { Replies dump-order pool.now text.old
+    ensures { Replies dump_order pool.now text.old
         (record { count = result; pool = pool.now; text = text.new }) }
 {
     let mut at = 0;

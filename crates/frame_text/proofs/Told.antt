@@ -119,7 +119,7 @@ line_empty (x ∷ s) h = absurd (omega arith)
 pub line_other : (s : List ℕ) → is_hex s ≡ false → read_line s ≡ refused 9
 line_other s h = ap read_bytes (unhex_pairs s) ∙ rw h refl
 
-module _ (s : List ℕ) (hex : is_hex s ≡ true) (some-there : 2 ≤ length s) where
+module _ (s : List ℕ) (hex : is_hex s ≡ true) (some_there : 2 ≤ length s) where
   line_bytes : read_line s ≡ read_bytes (some (pairs s))
   line_bytes = ap read_bytes (unhex_pairs s) ∙ rw hex refl
 

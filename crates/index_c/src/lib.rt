@@ -224,8 +224,8 @@ pub extern "C" fn alarm_portion(
     told: &mut [u64; 4],
 ) -> u32
     ensures { PortionCall pool.now tree (bound_for end_bounded end_included end) (sift_for least) out.old
-        (record { from = from.entry.now; told = told.old }) result out.new
-        (record { from = from.exit.now; told = told.new }) }
+        (record { from = from.old; told = told.old }) result out.new
+        (record { from = from.new; told = told.new }) }
 {
     let low = start_of(from);
     let high = bound(end_bounded, end_included, end);
@@ -257,7 +257,7 @@ pub extern "C" fn alarm_read_frame(
     dead: &mut [u32; 32],
 ) -> u32
     ensures { ReadCall (read_line line.now) (record {
-      head = head.entry.now;
+      head = head.old;
       keys = keys.old;
       wide = wide.old;
       narrow = narrow.old;
@@ -265,7 +265,7 @@ pub extern "C" fn alarm_read_frame(
       dead = dead.old;
     }) result
         (record {
-          head = head.exit.now;
+          head = head.new;
           keys = keys.new;
           wide = wide.new;
           narrow = narrow.new;

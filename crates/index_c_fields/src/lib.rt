@@ -18,14 +18,14 @@ pub fn tell_reading(
 ) -> u32
     ensures { Reports fields_of (contents_told reading.answer reading.contents)
         (record {
-          head = head.entry.now;
+          head = head.old;
           keys = keys.old;
           wide = wide.old;
           narrow = narrow.old;
           live = live.old;
           dead = dead.old;
         }) result (record {
-          head = head.exit.now;
+          head = head.new;
           keys = keys.new;
           wide = wide.new;
           narrow = narrow.new;
@@ -54,7 +54,7 @@ fn put_contents(
     dead: &mut [u32; 32],
 )
     ensures { (record {
-      head = head.exit.now;
+      head = head.new;
       keys = keys.new;
       wide = wide.new;
       narrow = narrow.new;

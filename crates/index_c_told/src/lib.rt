@@ -85,8 +85,8 @@ pub fn tell_scan(answer: ScanAnswer, told: &mut [u64; 3]) -> u32
 }
 
 pub fn tell_portion(answer: PortionAnswer, from: &mut [u64; 3], told: &mut [u64; 4]) -> u32
-    ensures { Reports (buffers_after from.entry.now) (portioned answer) (record { from = from.entry.now; told = told.old }) result
-        (record { from = from.exit.now; told = told.new }) }
+    ensures { Reports (buffers_after from.old) (portioned answer) (record { from = from.old; told = told.old }) result
+        (record { from = from.new; told = told.new }) }
 {
     match answer {
         PortionAnswer::Done(p) => {

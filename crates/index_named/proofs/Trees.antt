@@ -40,12 +40,12 @@ module _ {l : List ℕ} {f : Findings} (s : Surveyed l f) (i : ℕ) where
     pub no_tree : (r : Named) → r ≡ not_found 19 → 1 < i → Finds l i r
     no_tree r q h = rw q (record { refusal = holds (sound s e) (rw (le-ltb i 2 h) refl); tree = λ z. absurd (omega arith) })
 
-    module _ (h : i ≤ 1) (st : Settings) (height : ℕ) (handed-is : st ≡ handed f.given i) (tall : height ≡ height_for i f) where
+    module _ (h : i ≤ 1) (st : Settings) (height : ℕ) (handed_is : st ≡ handed f.given i) (tall : height ≡ height_for i f) where
       abbrev tree : Named
       tree = record { refusal = 0; settings = st; height = height; spare = f.spare }
 
       number : st.root ≡ i
-      number = ap (λ (u : Settings). u.root) handed-is ∙ root_is i h
+      number = ap (λ (u : Settings). u.root) handed_is ∙ root_is i h
 
       pub found : Finds l i tree
       found =
@@ -54,7 +54,7 @@ module _ {l : List ℕ} {f : Findings} (s : Surveyed l f) (i : ℕ) where
             tree = λ _.
                 record {
                   number = number;
-                  pool = tree_in s (told s e) i st height handed-is tall;
+                  pool = tree_in s (told s e) i st height handed_is tall;
                   spared = rw (tree_sees (given_in l) (words l) i) (spared_seen (root_for i) (nodes_in l 0) f.spare (s.spared (told s e)));
                 };
           }

@@ -11,7 +11,7 @@ use Rattle.slots.specs.Nodes.{nodes, nth, unused}
 use Rattle.model.specs.declared.Entry.{Entry}
 use Rattle.model.specs.declared.Settings.{Settings}
 use Rattle.model.specs.Tree.{Tree, entries_of}
-use Rattle.model.specs.Frame.{nodes_in as howMany}
+use Rattle.model.specs.Frame.{nodes_in as how_many}
 use Rattle.model_pack.specs.Pack.{capacity, height_for, packed}
 use Rattle.model_pack.specs.Packing.{Over}
 use Rattle.model.specs.Forest.{elsewhere}
@@ -87,9 +87,9 @@ module _ (l : List ℕ) (s : SoundPool l) (i : ℕ) (su : Settings) (same : (set
   grown_is = ap (packed su.order plan.height su.root next) (take-length (entries_of (index_of l i)))
 
   -- and has as many nodes as were counted
-  pub grown_nodes : howMany (suc plan.height) grown ≡ plan.nodes
+  pub grown_nodes : how_many (suc plan.height) grown ≡ plan.nodes
   grown_nodes =
-      ap (λ (t : Tree plan.height). howMany (suc plan.height) t) grown_is
+      ap (λ (t : Tree plan.height). how_many (suc plan.height) t) grown_is
       ∙ packed_nodes_lem su.order plan.height su.root next (entries_of (index_of l i))
 
   -- it can be built where its slots are free

@@ -92,9 +92,9 @@ module _ {l m : List ℕ} {f g : Findings} (k : ToCopy l f m g) where
 
     -- THE FIRST TREE, with the settings su
 
-    module _ (su : Settings) (handed-first : su ≡ handed g.given 0) where
+    module _ (su : Settings) (handed_first : su ≡ handed g.given 0) where
       first_is : su ≡ settings_in m 0
-      first_is = found_settings k.target 0 su handed-first
+      first_is = found_settings k.target 0 su handed_first
 
       size : su.nodes ≡ (settings_in m 0).nodes
       size = ap (λ (u : Settings). u.nodes) first_is
@@ -111,9 +111,9 @@ module _ {l m : List ℕ} {f g : Findings} (k : ToCopy l f m g) where
 
         -- THE SECOND, with the settings sv
 
-        module _ (X : List ℕ) (r : ℕ) (d : Leaves l (words m) X 2 r su p) (sv : Settings) (handed-second : sv ≡ handed g.given 1) where
+        module _ (X : List ℕ) (r : ℕ) (d : Leaves l (words m) X 2 r su p) (sv : Settings) (handed_second : sv ≡ handed g.given 1) where
           second_is : sv ≡ settings_in m 1
-          second_is = found_settings k.target 1 sv handed-second
+          second_is = found_settings k.target 1 sv handed_second
 
           first_done : Leaves l (words m) X 2 r (settings_in m 0) (plan_for l 0 (settings_in m 0).order)
           first_done = along (Leaves l (words m) X 2 r) first_is ep d

@@ -94,7 +94,7 @@ settle st Split before c after unused = share_out st before c after unused
 settle st Absorb before c after unused = absorb st before c after unused
 settle st Remove before c after unused = take_out before c after unused
 
-module _ (st : Settings) {X : Type 0} (separator : Node X → ℕ) (changeChild : ℕ → Node X → List Task → Run → Outcome (Node X)) where
+module _ (st : Settings) {X : Type 0} (separator : Node X → ℕ) (change_child : ℕ → Node X → List Task → Run → Outcome (Node X)) where
   abbrev pub stop : List (Node X) → List (Node X) → Bool → List Task → Run → Walked (Node X)
   stop before rest changed ts run = record { items = reverse_aux before rest; changed = changed; tasks = ts; run = run }
 
@@ -106,7 +106,7 @@ module _ (st : Settings) {X : Type 0} (separator : Node X → ℕ) (changeChild 
   walk (suc turns) ceiling before (c ∷ cs) changed [] run = stop before (c ∷ cs) changed [] run
   walk (suc turns) ceiling before (c ∷ cs) changed (t ∷ ts) run =
       let s = seek separator t.key before c cs in
-      let o = changeChild (ceiling_for (separator s.child) t.key ceiling) s.child (t ∷ ts) run in
+      let o = change_child (ceiling_for (separator s.child) t.key ceiling) s.child (t ∷ ts) run in
       let p = settle st o.result s.before o.node s.after o.run.unused in
       let on =
       walk turns ceiling p.before p.rest (changed || is_change o.result) o.tasks (record { unused = p.unused; counts = o.run.counts }) in

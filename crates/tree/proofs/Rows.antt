@@ -8,7 +8,7 @@ use Rattle.model.specs.declared.Totals.{Totals}
 use Rattle.model.specs.Tree.{adds}
 use Rattle.tree.specs.Bridge.{entry_of, child_row, child_of, child_totals, row_totals}
 
-module _ (key slot : ℕ) (t : Totals) (few : t.live < 1048576) (few-dead : t.dead < 1048576) where
+module _ (key slot : ℕ) (t : Totals) (few : t.live < 1048576) (few_dead : t.dead < 1048576) where
   pub slot_back : child_of (child_row key slot t) ≡ slot
   slot_back = omega arith
 

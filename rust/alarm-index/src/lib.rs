@@ -38,7 +38,7 @@
 //!
 //! # The archive
 //!
-//! `link/archive` of the repository writes it for this machine; the variable `ALARM_LIB` names it to cargo, by its whole path:
+//! `link/archive` of the repository writes it, for x86-64; the variable `ALARM_LIB` names it to cargo, by its whole path:
 //!
 //! ```text
 //! ALARM_LIB="$PWD/$(link/archive)" cargo build --manifest-path rust/alarm-index/Cargo.toml

@@ -1,4 +1,4 @@
--- `copy_trees` meets its contract: both trees are planned (`first-plan`, `second-plan`), there is no room for them (`told_7`), or each is built behind the
+-- `copy_trees` meets its contract: both trees are planned, there is no room for them (`told_7`), or each is built behind the
 -- one before it (`first_ready`, `second_ready`), and what is left is the image of the packed forest (`told_done`). Assumes nothing.
 use mathlib.Core.Path.{◌≡◌, ◌∙◌}
 use native.Mathlib.Omega.{arith}
