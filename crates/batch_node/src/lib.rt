@@ -64,7 +64,7 @@ fn interior_change(
     let mut i = 0;
     let mut changed = false;
     let mut now = run;
-    while roams_on(pool, st, node.slot, keys, now.next, node.ceiling, i) {
+    'roaming: while roams_on(pool, st, node.slot, keys, now.next, node.ceiling, i) {
         let next = now.next;
         let key = keys[next];
         let j = child_for(pool, st, node.slot, i, key);

@@ -21,6 +21,7 @@ pub struct Named {
 }
 
 // Tests any bytes and any number. 2 stands before 19 in the table, and so does the pool's test before the number's.
+#[tactic(auto, using(crate::proofs::Trees::no_tree))]
 pub fn find(pool: &[u8], tree: usize) -> Named
     ensures { Finds pool.now tree result }
 {

@@ -14,29 +14,29 @@ use Rattle.batch_node.proofs.+interior_change_node_change.Goals as goal
 pub interior_change-overflow_sub-below : goal.interior_change-overflow_sub-below
 interior_change-overflow_sub-below t c = omega (arith, c.requires.interior)
 
-pub interior_change-loop-op-init : goal.interior_change-loop-op-init
-interior_change-loop-op-init t c = (round_start c.requires.asked, refl)
+pub interior_change-roaming-init : goal.interior_change-roaming-init
+interior_change-roaming-init t c = (round_start c.requires.asked, refl)
 
 pub interior_change-roams_on-requires : goal.interior_change-roams_on-requires
-interior_change-roams_on-requires t c = round_at c.loop-op.invariant.0
+interior_change-roams_on-requires t c = round_at c.roaming.invariant.0
 
 pub interior_change-offset_bounds-keys-next : goal.interior_change-offset_bounds-keys-next
 interior_change-offset_bounds-keys-next t c =
     let keys = c.args.keys.now in
-    let w : c.loop-op.now.next < length keys = next_in c.loop-op.invariant.0 (sym c.roams_on.ensures ∙ c.loop-op-test.true) in
+    let w : c.roaming.now.next < length keys = next_in c.roaming.invariant.0 (sym c.roams_on.ensures ∙ c.roaming-test.true) in
     omega arith
 
 pub interior_change-bounds-keys-next : goal.interior_change-bounds-keys-next
 interior_change-bounds-keys-next t c =
-    next_in c.loop-op.invariant.0 (sym c.roams_on.ensures ∙ c.loop-op-test.true)
+    next_in c.roaming.invariant.0 (sym c.roams_on.ensures ∙ c.roaming-test.true)
 
 pub interior_change-child_for-j-requires : goal.interior_change-child_for-j-requires
 interior_change-child_for-j-requires t c =
-    (round_at c.loop-op.invariant.0, child_in c.loop-op.invariant.0 (sym c.roams_on.ensures ∙ c.loop-op-test.true))
+    (round_at c.roaming.invariant.0, child_in c.roaming.invariant.0 (sym c.roams_on.ensures ∙ c.roaming-test.true))
 
 pub interior_change-row_at-row-requires : goal.interior_change-row_at-row-requires
 interior_change-row_at-row-requires t c =
-    let g = round_at c.loop-op.invariant.0 in
+    let g = round_at c.roaming.invariant.0 in
     record { held = g.held; slot = g.slot; within = omega (arith, c.child_for-j.ensures.within) }
 
 pub interior_change-child_of-requires : goal.interior_change-child_of-requires
@@ -49,10 +49,10 @@ pub interior_change-node_change-r-requires : goal.interior_change-node_change-r-
 interior_change-node_change-r-requires t c = (
   omega (arith, c.decreases),
   child_call (let it : let a = c.args in
-      Sent a.st (words a.pool.now) (words c.loop-op.pool) (a.node.height - 1) a.node (call a.op a.places.now a.sizes.now a.keys.now)
-      a.run c.loop-op.i c.loop-op.changed c.loop-op.now c.child_for-j.result c.row_at-row.result c.child_of.result
+      Sent a.st (words a.pool.now) (words c.roaming.pool) (a.node.height - 1) a.node (call a.op a.places.now a.sizes.now a.keys.now)
+      a.run c.roaming.i c.roaming.changed c.roaming.now c.child_for-j.result c.row_at-row.result c.child_of.result
       c.ceiling_for.result = record {
-        round = round c.loop-op.invariant.0 (sym c.roams_on.ensures ∙ c.loop-op-test.true);
+        round = round c.roaming.invariant.0 (sym c.roams_on.ensures ∙ c.roaming-test.true);
         sought = c.child_for-j.ensures;
         is = c.row_at-row.ensures;
         child = c.child_of.ensures;
@@ -63,10 +63,10 @@ interior_change-node_change-r-requires t c = (
 pub interior_change-settle_child-to-requires : goal.interior_change-settle_child-to-requires
 interior_change-settle_child-to-requires t c =
     pending (let it : let a = c.args in
-    Sent a.st (words a.pool.now) (words c.loop-op.pool) (a.node.height - 1) a.node (call a.op a.places.now a.sizes.now a.keys.now)
-    a.run c.loop-op.i c.loop-op.changed c.loop-op.now c.child_for-j.result c.row_at-row.result c.child_of.result
+    Sent a.st (words a.pool.now) (words c.roaming.pool) (a.node.height - 1) a.node (call a.op a.places.now a.sizes.now a.keys.now)
+    a.run c.roaming.i c.roaming.changed c.roaming.now c.child_for-j.result c.row_at-row.result c.child_of.result
     c.ceiling_for.result = record {
-      round = round c.loop-op.invariant.0 (sym c.roams_on.ensures ∙ c.loop-op-test.true);
+      round = round c.roaming.invariant.0 (sym c.roams_on.ensures ∙ c.roaming-test.true);
       sought = c.child_for-j.ensures;
       is = c.row_at-row.ensures;
       child = c.child_of.ensures;
@@ -76,17 +76,17 @@ interior_change-settle_child-to-requires t c =
 pub interior_change-changed_by-changed-requires : goal.interior_change-changed_by-changed-requires
 interior_change-changed_by-changed-requires t c = tt
 
-pub interior_change-loop-op-smaller : goal.interior_change-loop-op-smaller
-interior_change-loop-op-smaller t c =
+pub interior_change-roaming-smaller : goal.interior_change-roaming-smaller
+interior_change-roaming-smaller t c =
     let came = c.node_change-r.ensures in
     omega (
       arith,
       came.batch.within,
       round_less (let it : let a = c.args in
-          Sent a.st (words a.pool.now) (words c.loop-op.pool) (a.node.height - 1) a.node (call a.op a.places.now a.sizes.now a.keys.now)
-          a.run c.loop-op.i c.loop-op.changed c.loop-op.now c.child_for-j.result c.row_at-row.result c.child_of.result
+          Sent a.st (words a.pool.now) (words c.roaming.pool) (a.node.height - 1) a.node (call a.op a.places.now a.sizes.now a.keys.now)
+          a.run c.roaming.i c.roaming.changed c.roaming.now c.child_for-j.result c.row_at-row.result c.child_of.result
           c.ceiling_for.result = record {
-            round = round c.loop-op.invariant.0 (sym c.roams_on.ensures ∙ c.loop-op-test.true);
+            round = round c.roaming.invariant.0 (sym c.roams_on.ensures ∙ c.roaming-test.true);
             sought = c.child_for-j.ensures;
             is = c.row_at-row.ensures;
             child = c.child_of.ensures;
@@ -94,33 +94,33 @@ interior_change-loop-op-smaller t c =
           } in it) came c.settle_child-to.ensures,
     )
 
-pub interior_change-loop-op-preserved : goal.interior_change-loop-op-preserved
-interior_change-loop-op-preserved t c = (
+pub interior_change-roaming-preserved : goal.interior_change-roaming-preserved
+interior_change-roaming-preserved t c = (
   round_again (let it : let a = c.args in
-      Sent a.st (words a.pool.now) (words c.loop-op.pool) (a.node.height - 1) a.node (call a.op a.places.now a.sizes.now a.keys.now)
-      a.run c.loop-op.i c.loop-op.changed c.loop-op.now c.child_for-j.result c.row_at-row.result c.child_of.result
+      Sent a.st (words a.pool.now) (words c.roaming.pool) (a.node.height - 1) a.node (call a.op a.places.now a.sizes.now a.keys.now)
+      a.run c.roaming.i c.roaming.changed c.roaming.now c.child_for-j.result c.row_at-row.result c.child_of.result
       c.ceiling_for.result = record {
-        round = round c.loop-op.invariant.0 (sym c.roams_on.ensures ∙ c.loop-op-test.true);
+        round = round c.roaming.invariant.0 (sym c.roams_on.ensures ∙ c.roaming-test.true);
         sought = c.child_for-j.ensures;
         is = c.row_at-row.ensures;
         child = c.child_of.ensures;
         top = c.ceiling_for.ensures;
       } in it) c.node_change-r.ensures c.settle_child-to.ensures c.changed_by-changed.ensures,
-  c.settle_child-to.auto.pool ∙ c.node_change-r.auto.pool ∙ c.loop-op.invariant.1,
+  c.settle_child-to.auto.pool ∙ c.node_change-r.auto.pool ∙ c.roaming.invariant.1,
 )
 
 pub interior_change-count-n-requires : goal.interior_change-count-n-requires
-interior_change-count-n-requires t c = round_at c.loop-op.invariant.0
+interior_change-count-n-requires t c = round_at c.roaming.invariant.0
 
 pub interior_change-result_of-result-requires : goal.interior_change-result_of-result-requires
 interior_change-result_of-result-requires t c = tt
 
 pub interior_change-shape_of-pool : goal.interior_change-shape_of-pool
-interior_change-shape_of-pool t c = c.loop-op.invariant.1
+interior_change-shape_of-pool t c = c.roaming.invariant.1
 
 pub interior_change-returns : goal.interior_change-returns
 interior_change-returns t c =
-    round_end c.loop-op.invariant.0 c.result_of-result.result (sym c.roams_on.ensures ∙ c.loop-op-test.false) c.count-n.ensures.is
+    round_end c.roaming.invariant.0 c.result_of-result.result (sym c.roams_on.ensures ∙ c.roaming-test.false) c.count-n.ensures.is
     c.result_of-result.ensures
 
 pub node_change-leaf_change-requires : goal.node_change-leaf_change-requires

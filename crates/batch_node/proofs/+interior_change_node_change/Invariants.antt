@@ -15,10 +15,10 @@ decreases-interior_change l = 2 * l.node.height + 1
 abbrev pub decreases-node_change : goal.decreases-node_change
 decreases-node_change l = 2 * l.node.height + 2
 
-abbrev pub invariant-interior_change-loop-op : goal.invariant-interior_change-loop-op
-invariant-interior_change-loop-op l =
+abbrev pub invariant-interior_change-roaming : goal.invariant-interior_change-roaming
+invariant-interior_change-roaming l =
     Roaming l.st (words l.initial.pool) (words l.pool) (l.node.height - 1) l.node (call l.op l.places l.sizes l.keys) l.initial.now l.i l.changed l.now × (length l.pool ≡ length l.initial.pool)
 
-abbrev pub decreases-interior_change-loop-op : goal.decreases-interior_change-loop-op
-decreases-interior_change-loop-op l =
+abbrev pub decreases-interior_change-roaming : goal.decreases-interior_change-roaming
+decreases-interior_change-roaming l =
     length l.keys - l.now.next

