@@ -72,6 +72,10 @@ module _ (l : List ℕ) where
   pub short : length l ≤ longest → wanted l ≡ asked l
   short h = simp (le-leb _ _ h) refl
 
+-- a line that is too long is read as malformed, with no numbers
+pub long_read : (l : List ℕ) (r : Reading) → r ≡ reading Read.Malformed [] [] [] → longest < length l → r ≡ reading_of (wanted l)
+long_read l r e h = e ∙ ap reading_of (sym (long l h))
+
 -- WHAT WAS READ
 
 -- keys, places and sizes side by side, and apart again

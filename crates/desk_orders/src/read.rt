@@ -9,6 +9,7 @@ use desk_lines::LONGEST;
 use desk_rows::read_rows;
 
 // Reads a line of any length. One of more than 255 bytes is malformed.
+#[tactic(auto, using(crate::proofs::Asks::long_read))]
 pub fn read_order(line: &[u8]) -> Reading
     ensures { result ≡ reading_of (wanted line.now) }
 {

@@ -13,7 +13,8 @@ use Rattle.model.specs.declared.Settings.{Settings}
 use Rattle.model.specs.Tree.{Index}
 use Rattle.model.specs.Refuse.{Call, call_refusal, tree_refusal, descend, needed}
 use Rattle.model.proofs.Calls.{formed}
-use Rattle.index_refuse.specs.Refusals.{miscounts, exempts}
+use Rattle.model.specs.declared.Operation.{Operation}
+use Rattle.index_refuse.specs.Refusals.{miscounts, exempts, TreeRefused}
 
 -- KEYS
 
@@ -111,3 +112,7 @@ module _ (st : Settings) (c : Call) (m n : ℕ) (e : n ≡ call_refusal st c 0) 
   by_tree none =
       let f = (formed st c 0 (sym e ∙ none)).0 in
       call_passed st c m f.few f.matched f.rising
+
+-- refusal 6, of whatever tree of this height a batch by this operation is for
+pub deep_6 : (op : Operation) (n height unused : ℕ) → exempts op n ≡ false → 7 ≤ height → TreeRefused height unused op n 6
+deep_6 op n height unused weighed h b x o k e f = tree_6 b x (rw (o, k) weighed) (rw e h)

@@ -6,6 +6,7 @@ ghost use Rattle.index_refuse.specs.Refusals.{TreeRefused, exempts};
 use model::Operation;
 
 // The first of 6 and 7 that applies to a batch of `n` keys on an index of this height with so many unused nodes; 0 where none does.
+#[tactic(auto, using(crate::proofs::Refuses::deep_6))]
 pub fn tree_refusal(height: usize, unused: usize, n: usize, op: Operation) -> u32
     requires { n ≤ 32 }
     ensures { TreeRefused height unused op n result }

@@ -19,6 +19,7 @@ pub struct Portion {
 }
 
 // The portion that a scan from `start` has made of this output.
+#[tactic(auto, using(crate::proofs::Outputs::told_with_room, crate::proofs::Outputs::told_without))]
 pub fn after_scan(start: Bound, scanned: Scanned, out: &[u8]) -> Portion
     requires { 24 * scanned.written ≤ length out.now }
     ensures { result ≡ portion_in start scanned out.now }

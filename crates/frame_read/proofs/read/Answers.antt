@@ -45,5 +45,5 @@ returns c =
     let l = c.args.line.now in
     let n = c.number-header.ensures.0 in
     read_as c.refusal-2.result
-    (line_unknown l (let it : is_hex c.args.line.now ≡ true = sym c.is_hex.ensures ∙ not-false c.is_hex.result c.if-not-is_hex.false-raw in it) (omega (arith, (let it : let l = c.args.line.now in 2 * (length l / 2) ≡ length l = hex_even c.args.line.now (let it : is_hex c.args.line.now ≡ true = sym c.is_hex.ensures ∙ not-false c.is_hex.result c.if-not-is_hex.false-raw in it) in it))) (λ e. c.if-header-eq1.false (n ∙ e)) (λ e. c.if-header-eq0.false (n ∙ e)))
+    (line_unknown l (let it : is_hex c.args.line.now ≡ true = sym c.is_hex.ensures ∙ not-false c.is_hex.result c.if-not-is_hex.false-raw in it) (omega (arith, (let it : let l = c.args.line.now in 2 * (length l / 2) ≡ length l = hex_even c.args.line.now (let it : is_hex c.args.line.now ≡ true = sym c.is_hex.ensures ∙ not-false c.is_hex.result c.if-not-is_hex.false-raw in it) in it))) (λ e. omega (arith, n, e)) (λ e. omega (arith, n, e)))
     c.refusal-2.ensures
