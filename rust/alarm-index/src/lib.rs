@@ -44,7 +44,7 @@
 //! ALARM_LIB="$PWD/$(link/archive)" cargo build --manifest-path rust/alarm-index/Cargo.toml
 //! ```
 //!
-//! The archive asks for `memcpy`, `memmove` and `memset`. A call takes at most 16 KB of stack.
+//! The archive asks for `memcpy` and `memset`. A call takes at most 16 KB of stack.
 #![no_std]
 #![deny(missing_docs)]
 
