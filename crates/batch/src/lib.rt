@@ -5,14 +5,14 @@
 #![tactic(auto)]
 
 ghost use Rattle.words.specs.Words.{words};
-ghost use Rattle.model.specs.Refuse.{call};
+ghost use Rattle.model.specs.Refuse.{called};
 ghost use Rattle.batch_root.specs.Promises.{ToSettleRoot, RootSettled};
 ghost use Rattle.batch.specs.Promises.{ToBatch, Changed};
 
 use batch_leaf::{Run, Subtree};
 use batch_node::node_change;
 use batch_root::{Root, collapse, split_root};
-use model::{ChangeResult, Counts, Operation, Settings};
+use model::{Batch, ChangeResult, Counts, Settings};
 use slots::LEAF;
 
 // What a batch has done, and what is left: the counts, and the root.
@@ -24,17 +24,9 @@ pub struct Ran {
 
 // The keys of a batch that is not refused, taken one after the other by a sound index with this root. A leaf root may leave keys, and so
 // may one that was emptied: then the root is called again.
-pub fn batch(
-    pool: &mut [u8],
-    st: Settings,
-    root: Root,
-    keys: &[u64],
-    places: &[u64],
-    sizes: &[u32],
-    op: Operation,
-) -> Ran
-    requires { ToBatch st (words pool.old) root (call op places.now sizes.now keys.now) }
-    ensures { let b = call op places.now sizes.now keys.now in
+pub fn batch(pool: &mut [u8], st: Settings, root: Root, batch: &Batch) -> Ran
+    requires { ToBatch st (words pool.old) root (called batch.now) }
+    ensures { let b = called batch.now in
         Changed st (words pool.old) (words pool.new) root.height b result }
 {
     let mut height = root.height;
@@ -45,14 +37,14 @@ pub fn batch(
         counts,
         spare,
     };
-    while run.next < keys.len() {
+    while run.next < batch.keys.len() {
         // the root has no ceiling
         let node = Subtree {
             height,
             slot: st.root,
             ceiling: u64::MAX,
         };
-        let r = node_change(pool, st, node, keys, places, sizes, op, run);
+        let r = node_change(pool, st, node, batch, run);
         let result = r.result;
         let came = r.run;
         let counts = came.counts;

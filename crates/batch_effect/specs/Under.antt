@@ -4,13 +4,13 @@ use Rattle.std.proofs.Math.Option.{Option, none, some}
 use Rattle.model.specs.declared.Counts.{Counts}
 use Rattle.model.specs.declared.Reference.{Reference}
 use Rattle.model.specs.Plain.{reference_for}
-use Rattle.batch_effect.specs.declared.Presence.{Presence}
-use Rattle.batch_effect.specs.declared.Presence.TheVariants as P
+use Rattle.std.specs.Prelude as Here
+use Rattle.batch_effect.specs.declared.Held.{Held}
 
 -- what stands under a key, as the model has it
-abbrev pub option_of : Presence → Option Reference
-option_of P.Absent = none
-option_of (P.Held p z) = some (reference_for p z)
+abbrev pub option_of : Here.Option Held → Option Reference
+option_of Here.None = none
+option_of (Here.Some h) = some (reference_for h.place h.size)
 
 -- there is a next key, and it does not exceed the ceiling
 abbrev pub is_due : List ℕ → ℕ → ℕ → Bool

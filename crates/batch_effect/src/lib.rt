@@ -7,22 +7,22 @@ ghost use Rattle.batch_effect.specs.Under.{option_of, is_due, AtMost};
 
 use model::{Action, Counts, Effect, Expectation, Reference, Wish};
 
-// What stands under a key: nothing, or a place and a size.
+// What stands under a key: a place, and a size as a row has it, in a whole word.
 #[derive(Clone, Copy)]
-pub enum Presence {
-    Absent,
-    Held(u64, u64),
+pub struct Held {
+    pub place: u64,
+    pub size: u64,
 }
 
 // What a wish does under a key.
-pub fn decide(wish: Wish, p: Presence) -> Effect
-    ensures { result ≡ effect wish (option_of p) }
+pub fn decide(wish: Wish, here: Option<Held>) -> Effect
+    ensures { result ≡ effect wish (option_of here) }
 {
     match wish {
-        Wish::Always(a) => effect_of(a, p),
+        Wish::Always(a) => effect_of(a, here),
         Wish::IfMet(e, a) => {
-            if meets(e, p) {
-                effect_of(a, p)
+            if meets(e, here) {
+                effect_of(a, here)
             } else {
                 Effect::Leave
             }
@@ -31,41 +31,33 @@ pub fn decide(wish: Wish, p: Presence) -> Effect
 }
 
 // What an action does under a key.
-fn effect_of(a: Action, p: Presence) -> Effect
-    ensures { result ≡ act a (option_of p) }
+fn effect_of(a: Action, here: Option<Held>) -> Effect
+    ensures { result ≡ act a (option_of here) }
 {
-    match a {
-        Action::Set(r) => match p {
-            Presence::Absent => Effect::Add(r),
-            Presence::Held(_, _) => Effect::Replace(r),
-        },
-        Action::Remove => match p {
-            Presence::Absent => Effect::Leave,
-            Presence::Held(_, _) => Effect::Remove,
-        },
+    match (a, here) {
+        (Action::Set(r), None) => Effect::Add(r),
+        (Action::Set(r), Some(_)) => Effect::Replace(r),
+        (Action::Remove, None) => Effect::Leave,
+        (Action::Remove, Some(_)) => Effect::Remove,
     }
 }
 
 // Whether an expectation is met. A dead entry is present too.
-fn meets(e: Expectation, p: Presence) -> bool
-    ensures { result ≡ met e (option_of p) }
+fn meets(e: Expectation, here: Option<Held>) -> bool
+    ensures { result ≡ met e (option_of here) }
 {
-    match p {
-        Presence::Absent => match e {
-            Expectation::Absent => true,
-            Expectation::Holds(_) => false,
-        },
-        Presence::Held(place, size) => match e {
-            Expectation::Absent => false,
-            Expectation::Holds(r) => same_reference(r, place, size),
-        },
+    match (e, here) {
+        (Expectation::Absent, None) => true,
+        (Expectation::Absent, Some(_)) => false,
+        (Expectation::Holds(_), None) => false,
+        (Expectation::Holds(r), Some(held)) => same_reference(r, held),
     }
 }
 
-fn same_reference(a: Reference, place: u64, size: u64) -> bool
-    ensures { result ≡ same a (reference_for place size) }
+fn same_reference(a: Reference, b: Held) -> bool
+    ensures { result ≡ same a (reference_for b.place b.size) }
 {
-    a.place == place && wide(a.size) == size
+    a.place == b.place && wide(a.size) == b.size
 }
 
 // A size as a row holds it.

@@ -11,8 +11,8 @@ use lib.ListN.{length, get_or, take, drop, drop_of_length-le}
 use lib.Seq.{drop-cons, set_split}
 use borrow.Author.Tests.{ltb-true, ltb-false, eqb-true, eq-eqb}
 use Rattle.slots_raw.specs.declared.Row.{Row}
-use Rattle.slots_find.specs.declared.Found.{Found}
-use Rattle.slots_find.specs.declared.Found.TheVariants as F
+use Rattle.std.specs.Prelude as Std
+use Rattle.std.specs.Prelude.{Result, Ok, Err}
 use Rattle.slots_raw.specs.Slots.{blank}
 use Rattle.slots.specs.Nodes.{nodes, put_rows, rows_at}
 use Rattle.slots.specs.Promises.{NodesPut}
@@ -38,10 +38,10 @@ use Rattle.model.proofs.Readable.{entry_keys_lem}
 use Rattle.tree.specs.Bridge.{entry_of, entry_row}
 use Rattle.tree.proofs.SoundHolds.{rows_again}
 use Rattle.tree.proofs.Keys.{rows_ascend, entries_from}
-use Rattle.batch_effect.specs.declared.Presence.{Presence}
+use Rattle.batch_effect.specs.declared.Held.{Held}
 use Rattle.batch_effect.specs.Under.{option_of}
 use Rattle.batch_leaf.specs.Promises.{ToTakeKey, ToPerform, KeyDone}
-use Rattle.batch_leaf.specs.Keys.{presence_at, place_of, performed}
+use Rattle.batch_leaf.specs.Keys.{held_at, place_of, performed}
 
 -- ROWS AND ENTRIES
 
@@ -80,12 +80,12 @@ module _ (k : ℕ) where
   above_row l i e h q = rw (from_row l i e h, eq-eqb (key_at l i) k q) refl
 
   -- what is found, with what the model has there
-  data View (l : List Row) : Found → Type 0 where
-    stands : {i : ℕ} → i ≡ S.below k l → i < length l → key_at l i ≡ k → View l (F.At i)
-    lacks : {i : ℕ} → i ≡ S.below k l → held k (entries l) ≡ none → above k (from k (entries l)) ≡ from k (entries l) → View l (F.Before i)
+  data View (l : List Row) : Result ℕ ℕ → Type 0 where
+    stands : {i : ℕ} → i ≡ S.below k l → i < length l → key_at l i ≡ k → View l (Ok i)
+    lacks : {i : ℕ} → i ≡ S.below k l → held k (entries l) ≡ none → above k (from k (entries l)) ≡ from k (entries l) → View l (Err i)
 
   viewed : (l : List Row) (a b : Bool) → ltb (S.below k l) (length l) ≡ a → eqb (key_at l (S.below k l)) k ≡ b
-      → View l (pick a (pick b (F.At (S.below k l)) (F.Before (S.below k l))) (F.Before (S.below k l)))
+      → View l (pick a (pick b (Ok (S.below k l)) (Err (S.below k l))) (Err (S.below k l)))
   unfolding pick
   viewed l true true p q = stands refl (ltb-true _ _ p) (eqb-true _ _ q)
   viewed l true false p q =
@@ -95,18 +95,18 @@ module _ (k : ℕ) where
       let e : from k (entries l) ≡ [] = entries_from k l ∙ ap entries (drop_of_length-le l (ltb-false _ _ p)) in
       lacks refl (rw e refl) (rw e refl)
 
-  view : (l : List Row) (r : Found) → Sought l k r → View l r
+  view : (l : List Row) (r : Result ℕ ℕ) → Sought l k r → View l r
   unfolding find_row
   view l r s = subst (View l) (sym s.is) (viewed l (ltb (S.below k l) (length l)) (eqb (key_at l (S.below k l)) k) refl refl)
 
   -- what stands there is what the model holds
-  presence_held : (l : List Row) (r : Found) → View l r → option_of (presence_at l r) ≡ held k (entries l)
-  presence_held l (F.At i) (stands e h q) = rw (from_row l i e h, eq-eqb (key_at l i) k q) refl
-  presence_held l (F.Before i) (lacks e h g) = sym h
+  presence_held : (l : List Row) (r : Result ℕ ℕ) → View l r → option_of (held_at l r) ≡ held k (entries l)
+  presence_held l (Ok i) (stands e h q) = rw (from_row l i e h, eq-eqb (key_at l i) k q) refl
+  presence_held l (Err i) (lacks e h g) = sym h
 
-place_within : (l : List Row) (r : Found) → Within l r → place_of r ≤ length l
-place_within l (F.At i) h = omega arith
-place_within l (F.Before i) h = h
+place_within : (l : List Row) (r : Result ℕ ℕ) → Within l r → place_of r ≤ length l
+place_within l (Ok i) h = omega arith
+place_within l (Err i) h = h
 
 -- WHAT CAN BE DONE
 
@@ -141,15 +141,15 @@ present (Always a) r = act_present a r
 present (IfMet e a) r = by_test (λ (x : Effect). adds x ≡ false) (met e (some r)) (λ _. act_present a r) (λ _. refl)
 
 module _ (st : Settings) (W : List ℕ) (s k : ℕ) (w : Wish) (leaf : ToTakeKey st W s) where
-  able : (r : Found) (d : Effect) → View k (rows_at st W s) r → place_of r ≤ length (rows_at st W s)
-      → d ≡ effect w (option_of (presence_at (rows_at st W s) r)) → ToPerform st W s (place_of r) d
+  able : (r : Result ℕ ℕ) (d : Effect) → View k (rows_at st W s) r → place_of r ≤ length (rows_at st W s)
+      → d ≡ effect w (option_of (held_at (rows_at st W s) r)) → ToPerform st W s (place_of r) d
   able r Leave v b e = record { held = leaf.held; slot = leaf.slot }
   able r (Add n) v b e =
       record { held = leaf.held; slot = leaf.slot; within = b; room = omega (arith, leaf.few, leaf.held.shape.limits.wide) }
-  able (F.At i) (Replace n) (stands p h q) b e = record { held = leaf.held; slot = leaf.slot; within = omega arith }
-  able (F.Before i) (Replace n) v b e = absurd (true≢false (ap touches e ∙ absent w))
-  able (F.At i) Remove (stands p h q) b e = record { held = leaf.held; slot = leaf.slot; within = omega arith }
-  able (F.Before i) Remove v b e = absurd (true≢false (ap touches e ∙ absent w))
+  able (Ok i) (Replace n) (stands p h q) b e = record { held = leaf.held; slot = leaf.slot; within = omega arith }
+  able (Err i) (Replace n) v b e = absurd (true≢false (ap touches e ∙ absent w))
+  able (Ok i) Remove (stands p h q) b e = record { held = leaf.held; slot = leaf.slot; within = omega arith }
+  able (Err i) Remove v b e = absurd (true≢false (ap touches e ∙ absent w))
 
 -- WHAT IT LEAVES
 
@@ -171,36 +171,36 @@ module _ (k : ℕ) (w : Wish) (l : List Row) where
       ∙ sym (rows_append (below k (entries l)) (es ++ above k (from k (entries l))))
 
   -- the rows after an effect are the entries after the task
-  performed_step : (r : Found) (d : Effect) → View k l r → d ≡ effect w (held k (entries l)) → performed l (place_of r) k d ≡ rows (step task (entries l))
+  performed_step : (r : Result ℕ ℕ) (d : Effect) → View k l r → d ≡ effect w (held k (entries l)) → performed l (place_of r) k d ≡ rows (step task (entries l))
   performed_step r Leave v e = sym (rows_again l) ∙ ap rows (sym (step_idle task (entries l) (ap alters (sym e))))
-  performed_step (F.At i) (Add n) (stands p h q) e =
-      absurd (true≢false (ap adds e ∙ ap (λ (o : Option Reference). adds (effect w o)) (sym (presence_held k l (F.At i) (stands p h q)))
+  performed_step (Ok i) (Add n) (stands p h q) e =
+      absurd (true≢false (ap adds e ∙ ap (λ (o : Option Reference). adds (effect w o)) (sym (presence_held k l (Ok i) (stands p h q)))
       ∙ present w (reference_for (get_or l i blank).body (get_or l i blank).size)))
-  performed_step (F.Before i) (Add n) (lacks p h g) e =
+  performed_step (Err i) (Add n) (lacks p h g) e =
       append_assoc (take i l) (entry_row (entry_for k n) ∷ []) (drop i l)
       ∙ joined i i (entry_for k n ∷ []) p (g ∙ entries_from k l ∙ ap (λ (j : ℕ). entries (drop j l)) (sym p))
       ∙ ap rows (sym (stepped (Add n) e))
-  performed_step (F.At i) (Replace n) (stands p h q) e =
+  performed_step (Ok i) (Replace n) (stands p h q) e =
       set_split l i (entry_row (entry_for k n)) h
       ∙ joined i (suc i) (entry_for k n ∷ []) p (above_row k l i p h q)
       ∙ ap rows (sym (stepped (Replace n) e))
-  performed_step (F.Before i) (Replace n) (lacks p h g) e =
+  performed_step (Err i) (Replace n) (lacks p h g) e =
       absurd (true≢false (ap touches e ∙ ap (λ (o : Option Reference). touches (effect w o)) h ∙ absent w))
-  performed_step (F.At i) Remove (stands p h q) e =
+  performed_step (Ok i) Remove (stands p h q) e =
       ap (λ (j : ℕ). take i l ++ drop j l) (add-one i)
       ∙ joined i (suc i) [] p (above_row k l i p h q)
       ∙ ap rows (sym (stepped Remove e))
-  performed_step (F.Before i) Remove (lacks p h g) e =
+  performed_step (Err i) Remove (lacks p h g) e =
       absurd (true≢false (ap touches e ∙ ap (λ (o : Option Reference). touches (effect w o)) h ∙ absent w))
 
 -- ONE KEY: what is decided by what was found can be done there, and done it is the task
 
-module _ {st : Settings} {W : List ℕ} {s k : ℕ} (w : Wish) (leaf : ToTakeKey st W s) {r : Found} {p : Presence} (d : Effect) {i : ℕ} (sought : Sought (rows_at st W s) k r) (ep : p ≡ presence_at (rows_at st W s) r) (ed : d ≡ effect w (option_of p)) (ei : i ≡ place_of r) where
+module _ {st : Settings} {W : List ℕ} {s k : ℕ} (w : Wish) (leaf : ToTakeKey st W s) {r : Result ℕ ℕ} {p : Std.Option Held} (d : Effect) {i : ℕ} (sought : Sought (rows_at st W s) k r) (ep : p ≡ held_at (rows_at st W s) r) (ed : d ≡ effect w (option_of p)) (ei : i ≡ place_of r) where
   abbrev l : List Row
   l = rows_at st W s
 
-  decided : d ≡ effect w (option_of (presence_at l r))
-  decided = ed ∙ ap (λ (x : Presence). effect w (option_of x)) ep
+  decided : d ≡ effect w (option_of (held_at l r))
+  decided = ed ∙ ap (λ (x : Std.Option Held). effect w (option_of x)) ep
 
   pub key_able : ToPerform st W s i d
   key_able =

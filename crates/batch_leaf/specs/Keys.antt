@@ -13,14 +13,12 @@ use Rattle.model.specs.Refuse.{Call, tasks_of}
 use Rattle.model.specs.Change.{Walked, take_tasks}
 use Rattle.tree.specs.Bridge.{entry_of, entry_row}
 use Rattle.slots_raw.specs.declared.Row.{Row}
-use Rattle.slots_find.specs.declared.Found.{Found}
-use Rattle.slots_find.specs.declared.Found.TheVariants as F
+use Rattle.std.specs.Prelude.{Result, Ok, Err, Option, Some, None}
 use Rattle.slots_raw.specs.Slots.{blank}
 use Rattle.model.specs.declared.Effect.{Effect}
 use Rattle.model.specs.declared.Effect.TheVariants.{Leave, Add, Replace, Remove}
 use Rattle.batch_effect.specs.Under.{is_due}
-use Rattle.batch_effect.specs.declared.Presence.{Presence}
-use Rattle.batch_effect.specs.declared.Presence.TheVariants as P
+use Rattle.batch_effect.specs.declared.Held.{Held}
 use Rattle.batch_leaf.specs.declared.Run.{Run}
 use Rattle.batch_leaf.specs.declared.Subtree.{Subtree}
 
@@ -39,14 +37,14 @@ task_at b i = record { key = get_or b.keys i 0; wish = wish_at b.operation b.pla
 -- WHAT WAS FOUND
 
 -- what stands where a key was found among the rows l
-abbrev pub presence_at : List Row → Found → Presence
-presence_at l (F.At i) = let e = entry_of (get_or l i blank) in P.Held e.place e.size
-presence_at l (F.Before i) = P.Absent
+abbrev pub held_at : List Row → Result ℕ ℕ → Option Held
+held_at l (Ok i) = let e = entry_of (get_or l i blank) in Some (record { place = e.place; size = e.size })
+held_at l (Err i) = None
 
 -- the row where a key was found, or before which it would stand
-abbrev pub place_of : Found → ℕ
-place_of (F.At i) = i
-place_of (F.Before i) = i
+abbrev pub place_of : Result ℕ ℕ → ℕ
+place_of (Ok i) = i
+place_of (Err i) = i
 
 -- WHAT IS DONE
 

@@ -5,11 +5,10 @@ ghost use Rattle.slots.specs.Nodes.{nodes, rows_at, put_rows};
 ghost use Rattle.slots.specs.Promises.{NodesPut, ToTouch};
 ghost use Rattle.slots_find.specs.Promises.{Sought};
 ghost use Rattle.batch_leaf.specs.Promises.{ToTakeKey, ToPerform, KeyDone};
-ghost use Rattle.batch_leaf.specs.Keys.{presence_at, place_of, performed};
+ghost use Rattle.batch_leaf.specs.Keys.{held_at, place_of, performed};
 
-use batch_effect::{Presence, decide};
+use batch_effect::{Held, decide};
 use model::{Effect, Settings, Wish};
-use slots_find::Found;
 use tree_rows::{entry_place, entry_row};
 
 // Does to leaf `s` what is asked of one key. Its answer is what was done.
@@ -18,34 +17,42 @@ pub fn change_key(pool: &mut [u8], st: Settings, s: usize, key: u64, wish: Wish)
     ensures { KeyDone st (words pool.old) (words pool.new) s (record { key = key; wish = wish }) result }
 {
     let found = slots_find::search(pool, st, s, key);
-    let p = presence_at(pool, st, s, key, found);
-    let effect = decide(wish, p);
+    let here = held_at(pool, st, s, key, found);
+    let effect = decide(wish, here);
     let i = place_of(found);
     perform(pool, st, s, i, key, effect);
     effect
 }
 
 // What stands where `key` was found.
-fn presence_at(pool: &[u8], st: Settings, s: usize, key: u64, found: Found) -> Presence
+fn held_at(
+    pool: &[u8],
+    st: Settings,
+    s: usize,
+    key: u64,
+    found: Result<usize, usize>,
+) -> Option<Held>
     requires { ToTouch st (words pool.now) s × Sought (rows_at st (words pool.now) s) key found }
-    ensures { result ≡ presence_at (rows_at st (words pool.now) s) found }
+    ensures { result ≡ held_at (rows_at st (words pool.now) s) found }
 {
     match found {
-        Found::At(i) => {
+        Ok(i) => {
             let row = slots::row_at(pool, st, s, i);
-            let place = entry_place(row);
-            Presence::Held(place, row.size)
+            Some(Held {
+                place: entry_place(row),
+                size: row.size,
+            })
         }
-        Found::Before(_) => Presence::Absent,
+        Err(_) => None,
     }
 }
 
-fn place_of(found: Found) -> usize
+// The row where a key was found, or before which it would stand.
+fn place_of(found: Result<usize, usize>) -> usize
     ensures { result ≡ place_of found }
 {
     match found {
-        Found::At(i) => i,
-        Found::Before(i) => i,
+        Ok(i) | Err(i) => i,
     }
 }
 

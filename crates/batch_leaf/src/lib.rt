@@ -8,7 +8,7 @@ ghost use Rattle.std.specs.Prelude.{◌≡◌, List, ℕ, ◌+◌, length};
 ghost use Rattle.words.specs.Words.{words};
 ghost use Rattle.slots.specs.Nodes.{rows_at};
 ghost use Rattle.slots.specs.Promises.{ToTouch};
-ghost use Rattle.model.specs.Refuse.{call};
+ghost use Rattle.model.specs.Refuse.{called};
 ghost use Rattle.batch_leaf.specs.Promises.{ToTakeKey, ToWish, Underway, KeysTaken};
 ghost use Rattle.batch_leaf.specs.Keys.{wish_at, goes_on};
 
@@ -16,7 +16,7 @@ mod key; // one key in a leaf
 
 use batch_effect::{altered, counted, is_due};
 use key::change_key;
-use model::{Action, Counts, Operation, Reference, Settings, Wish};
+use model::{Action, Batch, Counts, Operation, Reference, Settings, Wish};
 use tree_spare::Spare;
 
 // How far a batch has come: the next key, the counts so far, and the unused slots. It is handed down the tree and back.
@@ -44,26 +44,16 @@ pub struct Progress {
 
 // A leaf takes keys, from the next one on: the Rust's `modify_leaf`. It takes them until its length exceeds the larger of its length at
 // first and order; that is order, since no leaf comes with more.
-pub fn take_keys(
-    pool: &mut [u8],
-    st: Settings,
-    leaf: Subtree,
-    keys: &[u64],
-    places: &[u64],
-    sizes: &[u32],
-    op: Operation,
-    run: Run,
-) -> Progress
-    requires { ToTakeKey st (words pool.old) leaf.slot × Underway (call op places.now sizes.now keys.now) run }
-    ensures { let b = call op places.now sizes.now keys.now in
-        ((us : List ℕ) → KeysTaken st (words pool.old) (words pool.new) leaf b run us result) }
+pub fn take_keys(pool: &mut [u8], st: Settings, leaf: Subtree, batch: &Batch, run: Run) -> Progress
+    requires { ToTakeKey st (words pool.old) leaf.slot × Underway (called batch.now) run }
+    ensures { (us : List ℕ) → KeysTaken st (words pool.old) (words pool.new) leaf (called batch.now) run us result }
 {
     let mut now = run;
     let mut changed = false;
-    while takes(pool, st, leaf.slot, keys, now.next, leaf.ceiling) {
+    while takes(pool, st, leaf.slot, batch.keys, now.next, leaf.ceiling) {
         let next = now.next;
-        let key = keys[next];
-        let wish = wish_at(op, places, sizes, next);
+        let key = batch.keys[next];
+        let wish = wish_at(batch, next);
         let effect = change_key(pool, st, leaf.slot, key, wish);
         changed = altered(changed, effect);
         now.counts = counted(now.counts, effect);
@@ -85,15 +75,15 @@ fn takes(pool: &[u8], st: Settings, s: usize, keys: &[u64], next: usize, ceiling
 }
 
 // What the operation wishes of key `i`: a SetEach has a reference for each key.
-fn wish_at(op: Operation, places: &[u64], sizes: &[u32], i: usize) -> Wish
-    requires { ToWish op places.now sizes.now (i + 1) }
-    ensures { result ≡ wish_at op places.now sizes.now i }
+fn wish_at(batch: &Batch, i: usize) -> Wish
+    requires { let b = called batch.now in ToWish b.operation b.places b.sizes (i + 1) }
+    ensures { let b = called batch.now in result ≡ wish_at b.operation b.places b.sizes i }
 {
-    match op {
+    match batch.operation {
         Operation::Set(r) => Wish::Always(Action::Set(r)),
         Operation::SetEach => {
-            let place = places[i];
-            let size = sizes[i];
+            let place = batch.places[i];
+            let size = batch.sizes[i];
             Wish::Always(Action::Set(Reference { place, size }))
         }
         Operation::Remove => Wish::Always(Action::Remove),

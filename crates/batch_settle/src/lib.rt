@@ -12,51 +12,49 @@ ghost use Rattle.batch_share.specs.Children.{renewed};
 
 use batch_join::{absorb, take_out};
 use batch_share::renew::renew;
-use batch_share::{Standing, share_out};
+use batch_share::{Child, Standing, share_out};
 use model::{ChangeResult, Settings};
 use tree_node::child_at;
 use tree_spare::Spare;
 
-// Settles the result `v` of child `i` of node `s`, whose children have height `below`. (The Rust's `process_interior_change_result`.)
+// Settles the result `v` of a child. (The Rust's `process_interior_change_result`.)
 pub fn settle_child(
     pool: &mut [u8],
     st: Settings,
-    below: usize,
-    s: usize,
-    i: usize,
+    at: Child,
     v: ChangeResult,
     spare: Spare,
 ) -> Standing
-    requires { ToSettle st (words pool.old) below s i spare v }
-    ensures { ChildSettled st (words pool.old) (words pool.new) below s i v result }
+    requires { ToSettle st (words pool.old) at.height at.parent at.row spare v }
+    ensures { ChildSettled st (words pool.old) (words pool.new) at.height at.parent at.row v result }
 {
     match v {
-        ChangeResult::Unchanged => Standing { at: i, spare },
+        ChangeResult::Unchanged => Standing { at: at.row, spare },
         ChangeResult::Remove => {
-            renew_child(pool, st, below, s, i);
-            take_out(pool, st, below, s, i, spare)
+            renew_child(pool, st, at);
+            take_out(pool, st, at, spare)
         }
         ChangeResult::Absorb => {
-            renew_child(pool, st, below, s, i);
-            absorb(pool, st, below, s, i, spare)
+            renew_child(pool, st, at);
+            absorb(pool, st, at, spare)
         }
         ChangeResult::Changed => {
-            renew_child(pool, st, below, s, i);
-            Standing { at: i, spare }
+            renew_child(pool, st, at);
+            Standing { at: at.row, spare }
         }
         ChangeResult::Split => {
-            renew_child(pool, st, below, s, i);
-            share_out(pool, st, below, s, i, spare)
+            renew_child(pool, st, at);
+            share_out(pool, st, at, spare)
         }
     }
 }
 
-// Row `i` of node `s` becomes that of the child that it names, of height `below`.
-fn renew_child(pool: &mut [u8], st: Settings, below: usize, s: usize, i: usize)
-    requires { let W = words pool.old in ToRenew st W below s i (child_of (get_or (rows_at st W s) i blank)) }
+// The row of a child becomes that of the node that it names.
+fn renew_child(pool: &mut [u8], st: Settings, at: Child)
+    requires { let W = words pool.old in ToRenew st W at.height at.parent at.row (child_of (get_or (rows_at st W at.parent) at.row blank)) }
     ensures { let W = words pool.old in
-        NodesPut st W (words pool.new) (renewed (nodes st W) below s i (child_of (get_or (rows_at st W s) i blank))) }
+        NodesPut st W (words pool.new) (renewed (nodes st W) at.height at.parent at.row (child_of (get_or (rows_at st W at.parent) at.row blank))) }
 {
-    let c = child_at(pool, st, s, i);
-    renew(pool, st, below, s, i, c);
+    let c = child_at(pool, st, at.parent, at.row);
+    renew(pool, st, at, c);
 }

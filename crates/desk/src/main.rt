@@ -15,15 +15,13 @@ fn main(rt: HostRuntime) {
     let mut pool = [0u8; 3392];
     let mut line = [0u8; 255];
     let mut kept: usize = 0;
-    let mut reads = u64::MAX;
     desk_answers::open(&mut pool);
-    while reads > 0 {
+    for _ in 0..u64::MAX {
         let s = serve_read(&mut input, &mut pool, &mut line, kept);
         kept = s.kept;
         if !s.more {
             break;
         }
-        reads -= 1;
     }
     // the last line may lack its line feed
     if kept > 0 {
@@ -33,7 +31,8 @@ fn main(rt: HostRuntime) {
     }
 }
 
-// Whether there may be more to read, and how many bytes are kept of a line. Where the program is to end at once, none are.
+// Whether there may be more to read, and how many bytes are kept of a line. Where the program is to end at once, none are. (No ControlFlow: what is
+// kept is told either way.)
 #[derive(Clone, Copy)]
 struct Served {
     more: bool,
@@ -81,7 +80,7 @@ fn serve(pool: &mut [u8; 3392], line: &mut [u8; 255], had: usize, part: &[u8]) -
             };
         }
         kept = t.kept;
-        from = from + t.bytes;
+        from += t.bytes;
     }
     Served { more: true, kept }
 }

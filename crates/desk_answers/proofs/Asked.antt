@@ -8,6 +8,7 @@ use lib.Seq.{take_at}
 use borrow.Author.Tests.{lt-leb, le-leb}
 use Rattle.model.specs.declared.Entry.{Entry}
 use Rattle.model.specs.declared.Operation.TheVariants as Op
+use Rattle.model.specs.Refuse.{call}
 use Rattle.desk_orders.specs.declared.Reading.{Reading}
 use Rattle.desk_orders.specs.declared.Order.{Order}
 use Rattle.desk_orders.specs.declared.Order.TheVariants as Read
@@ -84,7 +85,7 @@ module _ (r : Reading) (w : Wanted) (e : r ≡ reading_of w) where
     pub places : m ≤ length r.places
     pub sizes : m ≤ length r.sizes
     pub answers : (l t : List ℕ) (a : Outcome)
-        → Changes (record { operation = Op.SetEach; places = take m r.places; sizes = take m r.sizes; keys = take m r.keys }) l t a → Answers w l t a
+        → Changes (call Op.SetEach (take m r.places) (take m r.sizes) (take m r.keys)) l t a → Answers w l t a
 
   pub rows : (m : ℕ) → r.order ≡ Read.Set m → Rows m
   rows m o =
@@ -97,7 +98,7 @@ module _ (r : Reading) (w : Wanted) (e : r ≡ reading_of w) where
 
   pub record Keys (m : ℕ) : Type 0 where
     pub keys : m ≤ length r.keys
-    pub answers : (l t : List ℕ) (a : Outcome) → Changes (record { operation = Op.Remove; places = []; sizes = []; keys = take m r.keys }) l t a
+    pub answers : (l t : List ℕ) (a : Outcome) → Changes (call Op.Remove [] [] (take m r.keys)) l t a
         → Answers w l t a
 
   pub keys_alone : (m : ℕ) → r.order ≡ Read.Drop m → Keys m

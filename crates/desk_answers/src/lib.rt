@@ -2,6 +2,7 @@
 #![tactic(auto)]
 
 ghost use Rattle.std.specs.Prelude.{◌≤◌, [], length, take};
+ghost use Rattle.model.specs.Refuse.{call};
 ghost use Rattle.model.specs.declared.Operation.TheVariants.{SetEach, Remove};
 ghost use Rattle.desk_orders.specs.Orders.{ordered};
 ghost use Rattle.desk_lines.specs.Parts.{held};
@@ -13,11 +14,8 @@ use desk_dump::dump;
 use desk_orders::{Order, Reading};
 use desk_pool::change;
 pub use desk_pool::open;
-use model::Operation;
+use model::{Batch, Operation, Refusal};
 pub use part::take_part;
-
-// The number of a line that is malformed or too long.
-const MALFORMED: u32 = 15;
 
 // Answers the line of which `n` bytes are kept (more than 255: it was too long) with a text in the first bytes of `text`, and tells its
 // length.
@@ -26,54 +24,45 @@ pub fn answer(pool: &mut [u8; 3392], line: &[u8; 255], n: usize, text: &mut [u8;
         (record { count = result; pool = pool.new; text = text.new }) }
 {
     if desk_lines::LONGEST < n {
-        return desk_text::say_refused(text, MALFORMED);
+        return desk_text::say_refused(text, Refusal::MalformedLine);
     }
     let bytes: &[u8] = line;
     let read = desk_orders::read_order(&bytes[..n]);
-    let order = read.order;
-    match order {
-        Order::Set(m) => set_rows(pool, read, m, text),
-        Order::Drop(m) => drop_keys(pool, read, m, text),
+    match read.order {
+        Order::Set(m) => set_rows(pool, &read, m, text),
+        Order::Drop(m) => drop_keys(pool, &read, m, text),
         Order::Dump => dump(pool, text),
-        Order::Malformed => desk_text::say_refused(text, MALFORMED),
+        Order::Malformed => desk_text::say_refused(text, Refusal::MalformedLine),
     }
 }
 
 // The batch that a `set` of `m` rows asks for.
-fn set_rows(pool: &mut [u8; 3392], read: Reading, m: usize, text: &mut [u8; 4096]) -> usize
-    requires { (m ≤ length read.keys) × (m ≤ length read.places) × (m ≤ length read.sizes) }
+fn set_rows(pool: &mut [u8; 3392], read: &Reading, m: usize, text: &mut [u8; 4096]) -> usize
+    requires { (m ≤ length read.now.keys) × (m ≤ length read.now.places) × (m ≤ length read.now.sizes) }
     ensures { Changes
-        (record { operation = SetEach; places = take m read.places; sizes = take m read.sizes; keys = take m read.keys })
+        (call SetEach (take m read.now.places) (take m read.now.sizes) (take m read.now.keys))
         pool.old text.old (record { count = result; pool = pool.new; text = text.new }) }
 {
-    let keys = read.keys;
-    let places = read.places;
-    let sizes = read.sizes;
-    change(
-        pool,
-        &keys[..m],
-        &places[..m],
-        &sizes[..m],
-        Operation::SetEach,
-        text,
-    )
+    let batch = Batch {
+        operation: Operation::SetEach,
+        keys: &read.keys[..m],
+        places: &read.places[..m],
+        sizes: &read.sizes[..m],
+    };
+    change(pool, &batch, text)
 }
 
 // The batch that a `drop` of `m` keys asks for.
-fn drop_keys(pool: &mut [u8; 3392], read: Reading, m: usize, text: &mut [u8; 4096]) -> usize
-    requires { m ≤ length read.keys }
-    ensures { Changes (record { operation = Remove; places = []; sizes = []; keys = take m read.keys })
+fn drop_keys(pool: &mut [u8; 3392], read: &Reading, m: usize, text: &mut [u8; 4096]) -> usize
+    requires { m ≤ length read.now.keys }
+    ensures { Changes (call Remove [] [] (take m read.now.keys))
         pool.old text.old (record { count = result; pool = pool.new; text = text.new }) }
 {
-    let keys = read.keys;
-    let places = read.places;
-    let sizes = read.sizes;
-    change(
-        pool,
-        &keys[..m],
-        &places[..0],
-        &sizes[..0],
-        Operation::Remove,
-        text,
-    )
+    let batch = Batch {
+        operation: Operation::Remove,
+        keys: &read.keys[..m],
+        places: &[],
+        sizes: &[],
+    };
+    change(pool, &batch, text)
 }

@@ -12,13 +12,15 @@ use borrow.Rule.Slice.PartMut.{put_mid}
 use lib.ListN.{length, take, drop, drop_of_length-le, set, get_elem?, length-append, length-drop, length-set, take-append-drop}
 use lib.Seq.{take_all, set_split, drop-drop, append_snoc}
 use borrow.Author.Tests.{ltb-true, ltb-false}
-use Rattle.model.specs.Answer.{Answer, refused, done, unless}
+use Rattle.std.specs.Prelude.{Result, Ok, Err}
+use Rattle.model.specs.declared.Refusal.{Refusal}
+use Rattle.model.specs.declared.Refusal.TheVariants.{NoSuchNode}
+use Rattle.model.specs.Answer.{Answer, refused, done, unless, number}
 use Rattle.model.specs.Frame.{Frame, frames_of, line_of, written}
 use Rattle.model.proofs.Answers.{refused_done}
+use Rattle.model.proofs.Refusals.{number_only}
 use Rattle.model.proofs.Lists.{parts_append}
 use Rattle.tree.specs.Pool.{SoundPool, index_of}
-use Rattle.frame_text.specs.declared.WriteAnswer.{WriteAnswer}
-use Rattle.frame_text.specs.declared.WriteAnswer.TheVariants as Write
 use Rattle.index_promise.specs.Promise.{holds, fails, Left, ◌leaving◌, leaves, Frames}
 use Rattle.desk_text.specs.Texts.{over, refused_text}
 use Rattle.desk_text.proofs.Overs.{Put, behind, put_length, over_first}
@@ -49,7 +51,7 @@ module _ (l : List ℕ) (i : ℕ) (line line' : List ℕ) where
   abbrev left : Answer (List ℕ) → Left ℕ
   left a = leaves length (λ s. s ++ drop (length s) line) line a
 
-  drawn : (n : ℕ) → Frames l 0 i line (Write.Done n) line' → Drawn l i n line line'
+  drawn : (n : ℕ) → Frames l 0 i line (Ok n) line' → Drawn l i n line line'
   drawn n (fails u e) = absurd (refused_done 2 n (sym (ap (λ (w : Left ℕ). w.answer) e)))
   drawn n (holds s e) = by (get_elem? fs i) refl e
     where
@@ -73,23 +75,23 @@ module _ (l : List ℕ) (i : ℕ) (line line' : List ℕ) where
       by none q e = absurd (refused_done 14 n (sym (ap (λ (w : Left ℕ). w.answer) e)))
       by (some f) q e = fit f (ltb (length line) (length (line_of f))) q refl e
 
-  undrawn : (m : ℕ) → Frames l 0 i line (Write.Refused m) line' → (line' ≡ line) × Undrawn l i m line
-  undrawn m (fails u e) = (ap (λ (w : Left ℕ). w.bytes) e, unsound u (told (ap (λ (w : Left ℕ). w.answer) e)))
+  undrawn : (why : Refusal) → Frames l 0 i line (Err why) line' → (line' ≡ line) × Undrawn l i (number why) line
+  undrawn why (fails u e) = (ap (λ (w : Left ℕ). w.bytes) e, unsound u (is (ap (λ (w : Left ℕ). w.answer) e)))
     where
-      told : ◌≡◌ {A = Answer ℕ} (refused m) (refused 2) → m ≡ 2
-      told h = cc
-  undrawn m (holds s e) = by (get_elem? fs i) refl e
+      is : ◌≡◌ {A = Answer ℕ} (refused (number why)) (refused 2) → number why ≡ 2
+      is h = cc
+  undrawn why (holds s e) = by (get_elem? fs i) refl e
     where
-      told : (k : ℕ) → ◌≡◌ {A = Answer ℕ} (refused m) (refused k) → m ≡ k
-      told k h = cc
+      is : (k : ℕ) → ◌≡◌ {A = Answer ℕ} (refused (number why)) (refused k) → number why ≡ k
+      is k h = cc
 
       fit : (f : Frame) (t : Bool) → get_elem? fs i ≡ some f → ltb (length line) (length (line_of f)) ≡ t
-          → (refused m leaving line') ≡ left (unless (cond t 16 0) (line_of f)) → (line' ≡ line) × Undrawn l i m line
-      fit f true q g e = (ap (λ (w : Left ℕ). w.bytes) e, short s (told 16 (ap (λ (w : Left ℕ). w.answer) e)) f q (ltb-true _ _ g))
-      fit f false q g e = absurd (refused_done m (length (line_of f)) (ap (λ (w : Left ℕ). w.answer) e))
+          → (refused (number why) leaving line') ≡ left (unless (cond t 16 0) (line_of f)) → (line' ≡ line) × Undrawn l i (number why) line
+      fit f true q g e = (ap (λ (w : Left ℕ). w.bytes) e, short s (is 16 (ap (λ (w : Left ℕ). w.answer) e)) f q (ltb-true _ _ g))
+      fit f false q g e = absurd (refused_done (number why) (length (line_of f)) (ap (λ (w : Left ℕ). w.answer) e))
 
-      by : (o : Option Frame) → get_elem? fs i ≡ o → (refused m leaving line') ≡ left (written (length line) o) → (line' ≡ line) × Undrawn l i m line
-      by none q e = (ap (λ (w : Left ℕ). w.bytes) e, past s (told 14 (ap (λ (w : Left ℕ). w.answer) e)) q)
+      by : (o : Option Frame) → get_elem? fs i ≡ o → (refused (number why) leaving line') ≡ left (written (length line) o) → (line' ≡ line) × Undrawn l i (number why) line
+      by none q e = (ap (λ (w : Left ℕ). w.bytes) e, past s (is 14 (ap (λ (w : Left ℕ). w.answer) e)) q)
       by (some f) q e = fit f (ltb (length line) (length (line_of f))) q refl e
 
 -- a part that is lent from a place on is all the rest, and stands there again afterwards
@@ -101,7 +103,7 @@ rest_put t at line =
     let over : drop (length t - at) (drop at t) ≡ [] = drop_of_length-le (drop at t) {i = length t - at} (omega (arith, length-drop at t)) in
     ap (λ x. take at t ++ (line ++ x)) over ∙ ap (take at t ++◌) (append-nil line)
 
-pub of_the_rest : (l : List ℕ) (i : ℕ) {r q : WriteAnswer} (t : List ℕ) (at : ℕ) {line' : List ℕ} → r ≡ q
+pub of_the_rest : (l : List ℕ) (i : ℕ) {r q : Result ℕ Refusal} (t : List ℕ) (at : ℕ) {line' : List ℕ} → r ≡ q
     → Frames l 0 i (take (length t - at) (drop at t)) r line'
     → Frames l 0 i (drop at t) q line'
 of_the_rest l i {r} t at {line'} e f = subst (λ q. Frames l 0 i (drop at t) q line') e (subst (λ line. Frames l 0 i line r line') (rest t at) f)
@@ -156,7 +158,7 @@ module _ (l t₀ : List ℕ) where
 
   module _ {t : List ℕ} {at i : ℕ} (h : Shown t at i) where
     -- one more
-    module _ {n : ℕ} {line' : List ℕ} (f : Frames l 0 i (drop at t) (Write.Done n) line') where
+    module _ {n : ℕ} {line' : List ℕ} (f : Frames l 0 i (drop at t) (Ok n) line') where
       abbrev d : Drawn l i n (drop at t) line'
       d = drawn l i (drop at t) line' n f
 
@@ -233,12 +235,15 @@ module _ (l t₀ : List ℕ) where
         by (inr s) = all_shown s (omega (arith, frames_16 l s h.long))
 
     -- no frame was drawn: there is none, or the pool is not sound
-    module _ {m : ℕ} {line' : List ℕ} (f : Frames l 0 i (drop at t) (Write.Refused m) line') where
-      as_it_was : take at t ++ line' ≡ t
-      as_it_was = ap (take at t ++◌) (undrawn l i (drop at t) line' m f).0 ∙ take-append-drop at t
+    module _ (why : Refusal) {line' : List ℕ} (f : Frames l 0 i (drop at t) (Err why) line') where
+      abbrev m : ℕ
+      m = number why
 
-      why : Undrawn l i m (drop at t)
-      why = (undrawn l i (drop at t) line' m f).1
+      as_it_was : take at t ++ line' ≡ t
+      as_it_was = ap (take at t ++◌) (undrawn l i (drop at t) line' why f).0 ∙ take-append-drop at t
+
+      undone : Undrawn l i m (drop at t)
+      undone = (undrawn l i (drop at t) line' why f).1
 
       no_room : SoundPool l → (g : Frame) → get_elem? all i ≡ some g → length (drop at t) < length (line_of g) → ⊥
       no_room s g e lt =
@@ -258,20 +263,23 @@ module _ (l t₀ : List ℕ) where
             length-append (line_of g) (10 ∷ []),
           )
 
-      pub ended : (t₁ : List ℕ) → t₁ ≡ take at t ++ line' → m ≡ 14 → Replies dump l t₀ (record { count = at; pool = l; text = t₁ })
-      ended t₁ same e = rw (same ∙ as_it_was) (by why)
+      pub ended : (t₁ : List ℕ) → t₁ ≡ take at t ++ line' → why ≡ NoSuchNode → Replies dump l t₀ (record { count = at; pool = l; text = t₁ })
+      ended t₁ same is = rw (same ∙ as_it_was) (by undone)
         where
-          by : Undrawn l i m (drop at t) → Replies dump l t₀ (record { count = at; pool = l; text = t })
-          by (unsound u z) = absurd (omega arith)
-          by (past s z none_there) = all_shown s (elem_none all i none_there)
-          by (short s z g q lt) = absurd (omega arith)
+          e : m ≡ 14
+          e = ap number is
 
-      pub refused_at_once : (k : ℕ) (t₁ t' : List ℕ) → t₁ ≡ take at t ++ line' → (m ≡ 14 → ⊥) → k ≡ length (refused_text m) → t' ≡ over 0 (refused_text m) t₁
+          by : Undrawn l i m (drop at t) → Replies dump l t₀ (record { count = at; pool = l; text = t })
+          by (unsound u z) = absurd (omega (arith, z, e))
+          by (past s z none_there) = all_shown s (elem_none all i none_there)
+          by (short s z g q lt) = absurd (omega (arith, z, e))
+
+      pub refused_at_once : (k : ℕ) (t₁ t' : List ℕ) → t₁ ≡ take at t ++ line' → (why ≡ NoSuchNode → ⊥) → k ≡ length (refused_text m) → t' ≡ over 0 (refused_text m) t₁
           → Replies dump l t₀ (record { count = k; pool = l; text = t' })
-      refused_at_once k t₁ t' same other c b = by why
+      refused_at_once k t₁ t' same other c b = by undone
         where
           by : Undrawn l i m (drop at t) → Replies dump l t₀ (record { count = k; pool = l; text = t' })
-          by (past s z none_there) = absurd (other z)
+          by (past s z none_there) = absurd (other (number_only why NoSuchNode z))
           by (short s z g e lt) = absurd (no_room s g e lt)
           by (unsound u z) =
               let first : i ≡ 0 = ⊎_elim (λ x. x) (λ s. absurd (u s)) h.sound in

@@ -6,10 +6,7 @@ ghost use Rattle.desk_orders.specs.Orders.{dump as dump_order};
 ghost use Rattle.desk_promise.specs.Promise.{Replies};
 
 use desk_promise::TREE;
-use frame_text::WriteAnswer;
-
-// The number of a frame that is not there.
-const NO_NODE: u32 = 14;
+use model::Refusal;
 
 // Writes the frames into the first bytes of a text, and tells their length. A pool of 3,392 bytes has at most 16 nodes, and its frames
 // have room in 4,096.
@@ -27,19 +24,17 @@ fn show(pool: &[u8], text: &mut [u8]) -> usize
         (record { count = result; pool = pool.now; text = text.new }) }
 {
     let mut at = 0;
-    let mut i = 0;
-    while i < 16 {
+    for i in 0..16 {
         match index_look::frame(pool, TREE, i, &mut text[at..]) {
-            WriteAnswer::Done(n) => {
+            Ok(n) => {
                 text[at + n] = b'\n';
                 at = at + n + 1;
-                i += 1;
             }
-            WriteAnswer::Refused(n) => {
-                if n == NO_NODE {
-                    return at;
-                }
-                return desk_text::say_refused(text, n);
+            Err(why) => {
+                return match why {
+                    Refusal::NoSuchNode => at, // all frames are written
+                    _ => desk_text::say_refused(text, why),
+                };
             }
         }
     }

@@ -1,17 +1,14 @@
 -- A part is kept behind the parts before it, and the parts are the line. Assumes nothing.
-use Prim.Native.Nat.{ℕ, ◌+◌, ◌<◌, ◌≤◌}
+use Prim.Native.Nat.{◌+◌, ◌<◌, ◌≤◌}
 use native.Mathlib.Omega.{arith}
 use mathlib.Core.Path.{◌≡◌, refl, ap, ◌∙◌}
 use mathlib.Core.Bool.{Bool, true, false, cond}
-use mathlib.Core.List.{List, ◌++◌}
+use mathlib.Core.List.{◌++◌}
 use lib.Dec.{leb}
 use lib.ListN.{length, take, drop, length-append}
 use lib.Seq.{length-take-le, take_at}
-use borrow.Author.Tests.{lt-leb, le-leb, leb-true, leb-false}
-use Rattle.desk_text.specs.Texts.{over}
+use borrow.Author.Tests.{lt-leb, leb-true, leb-false}
 use Rattle.desk_lines.specs.Parts.{longest, whole, too_long, kept, joined, held, keeping, KeepsTheParts, CutAnyhow}
-
--- THE STATEMENTS
 
 pub cut_anyhow : CutAnyhow
 cut_anyhow a b = by (leb (length a) longest) refl
@@ -40,12 +37,3 @@ keeps_the_parts p part full = by (leb p.count longest) refl (leb (p.count + leng
         rw (e, d) (simp (lt-leb (length (take p.count p.bytes ++ part)) longest more) refl)
     by false d true e = absurd (omega (arith, leb-false p.count longest d, leb-true (p.count + length part) longest e))
     by false d false e = rw (e, d) refl
-
--- THE CODE'S WAY
-
-module _ (line part : List ℕ) (n : ℕ) where
-  pub no_room : longest < n + length part → record { count = 256; bytes = line } ≡ keeping (record { count = n; bytes = line }) part
-  no_room h = simp (lt-leb (n + length part) longest h) refl
-
-  pub has_room : n + length part ≤ longest → record { count = n + length part; bytes = over n part line } ≡ keeping (record { count = n; bytes = line }) part
-  has_room h = simp (le-leb (n + length part) longest h) refl

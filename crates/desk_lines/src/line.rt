@@ -14,12 +14,11 @@ pub fn next_line(text: &[u8]) -> &[u8]
 pub fn find(text: &[u8], from: usize, stop: u8) -> usize
     ensures { result ≡ end_of stop text.now from }
 {
-    let mut i = from;
-    while i < text.len() {
+    for i in from..text.len() {
         if text[i] == stop {
             return i;
         }
-        i += 1;
     }
-    i
+    // a place behind the text is where it ends
+    from.max(text.len())
 }

@@ -5,7 +5,8 @@ ghost use Rattle.desk_lines.specs.Parts.{keeping};
 // The most bytes of a line, its line feed not counted.
 pub const LONGEST: usize = 255;
 
-// What is answered in place of a count where the line is longer.
+// What is answered in place of a count where the line is longer. (No Option: the count is kept beside the bytes from turn to turn, and
+// any count has its meaning there: above 255 they are no line.)
 pub const TOO_LONG: usize = 256;
 
 // Puts another part of a line behind the `n` bytes that are kept of it, and answers how many are kept then. Where there is no room the

@@ -1,66 +1,44 @@
 -- What a line asks for, by its first word. Assumes nothing.
-use Prim.Native.Nat.{ℕ, zero, suc, ◌-◌, ◌<◌, ◌≤◌}
+use Prim.Native.Nat.{ℕ, suc, ◌-◌, ◌<◌, ◌≤◌}
 use native.Mathlib.Omega.{arith}
 use mathlib.Core.Path.{◌≡◌, refl, ap, sym, ◌∙◌}
-use mathlib.Core.Logic.{◌≢◌}
-use mathlib.Core.Bool.{true, false, true≢false}
+use mathlib.Core.Bool.{true, false}
 use mathlib.Core.List.{List, [], ◌∷◌, ◌++◌, map}
 use mathlib.Core.Option.{Option, some}
-use lib.Dec.{eqb}
-use lib.ListN.{length, take, drop, replicate, length-drop, take-append-drop}
+use lib.ListN.{length, take, drop, replicate, take-append-drop}
 use lib.Seq.{length-take-le}
 use Rattle.slots_raw.proofs.Over.{drop_replicate}
 use borrow.Author.Tests.{le-leb, lt-leb}
+use Rattle.std.specs.Prelude as Here
 use Rattle.model.specs.declared.Entry.{Entry}
-use Rattle.model.proofs.Lists.{both_right}
 use Rattle.desk_orders.specs.declared.Order.TheVariants as Read
 use Rattle.desk_orders.specs.declared.Reading.{Reading}
 use Rattle.desk_lines.specs.Parts.{longest}
-use Rattle.desk_orders.specs.Orders.{malformed, dump, begins, is_empty, set_word, drop_word, dump_word, setting, dropping}
+use Rattle.desk_orders.specs.Orders.{malformed, dump, begins, is_word, set_word, drop_word, dump_word, setting, dropping}
 use Rattle.desk_orders.specs.Orders.{asked, wanted, placed, reading, reading_of}
 use Rattle.desk_rows.specs.Rows.{rows_in, fields}
 use Rattle.desk_rows.specs.Numbers.{fields_from, entries_of, Lends, Past, rows_read}
-
--- a line is as long as the word that it begins with
-pub begins_long : (w l : List ℕ) → begins w l ≡ true → length w ≤ length l
-unfolding begins
-begins_long [] l e = omega arith
-begins_long (a ∷ w) [] e = absurd (true≢false (sym e))
-begins_long (a ∷ w) (b ∷ l) e = omega (arith, begins_long w l (both_right (eqb b a) (begins w l) e))
 
 from_inside : (l : List ℕ) (n : ℕ) → n ≤ length l → fields_from l n ≡ fields (drop n l)
 from_inside l n h = simp (le-leb _ _ h) refl
 
 module _ (l : List ℕ) where
-  pub asks_set : begins set_word l ≡ true → asked l ≡ setting (rows_in true (fields_from l 4))
+  pub asks_set : begins set_word l ≡ true → 4 ≤ length l → asked l ≡ setting (rows_in true (fields_from l 4))
   unfolding asked
-  asks_set e = rw (e, from_inside l 4 (begins_long set_word l e)) refl
+  asks_set e h = rw (e, from_inside l 4 h) refl
 
   module _ (no : begins set_word l ≡ false) where
-    pub asks_drop : begins drop_word l ≡ true → asked l ≡ dropping (rows_in false (fields_from l 5))
+    pub asks_drop : begins drop_word l ≡ true → 5 ≤ length l → asked l ≡ dropping (rows_in false (fields_from l 5))
     unfolding asked
-    asks_drop e = rw (no, e, from_inside l 5 (begins_long drop_word l e)) refl
+    asks_drop e h = rw (no, e, from_inside l 5 h) refl
 
     module _ (nor : begins drop_word l ≡ false) where
-      pub asks_dump : begins dump_word l ≡ true → length l ≡ 4 → asked l ≡ dump
-      unfolding asked is_empty
-      asks_dump e f = rw (no, nor, e, nothing (drop 4 l) (omega (arith, length-drop 4 l))) refl
-        where
-          nothing : (m : List ℕ) → length m ≡ 0 → is_empty m ≡ true
-          nothing [] h = refl
-          nothing (b ∷ bs) h = absurd (omega arith)
+      pub asks_dump : is_word dump_word l ≡ true → asked l ≡ dump
+      unfolding asked
+      asks_dump e = rw (no, nor, e) refl
 
-      pub asks_more : begins dump_word l ≡ true → length l ≢ 4 → asked l ≡ malformed
-      unfolding asked is_empty
-      asks_more e f =
-          rw (no, nor, e, something (drop 4 l) (λ z. f (let g = begins_long dump_word l e in omega (arith, length-drop 4 l)))) refl
-        where
-          something : (m : List ℕ) → length m ≢ 0 → is_empty m ≡ false
-          something [] h = absurd (h refl)
-          something (b ∷ bs) h = refl
-
-      pub asks_none : begins dump_word l ≡ false → asked l ≡ malformed
-      unfolding asked is_empty
+      pub asks_none : is_word dump_word l ≡ false → asked l ≡ malformed
+      unfolding asked
       asks_none e = rw (no, nor, e) refl
 
 -- THE LIMIT
@@ -104,22 +82,10 @@ placed_is xs n full few past =
 abbrev zeros : List ℕ
 zeros = replicate 128 0
 
-module _ (n : ℕ) (ks ps zs : List ℕ) (o : Option (List Entry)) (read : rows_read n ks ps zs ≡ o) where
-  -- rows that are malformed ..
-  pub set_bad : n ≡ 0 → reading Read.Malformed [] [] [] ≡ reading_of (setting o)
-  set_bad h = ap (λ x. reading_of (setting x)) (sym (ap (λ k. rows_read k ks ps zs) h) ∙ read)
-
-  pub drop_bad : n ≡ 0 → reading Read.Malformed [] [] [] ≡ reading_of (dropping o)
-  drop_bad h = ap (λ x. reading_of (dropping x)) (sym (ap (λ k. rows_read k ks ps zs) h) ∙ read)
-
-  -- .. or are read
-  module _ (some' : n ≡ 0 → ⊥) (few : n ≤ 128) (lends : Lends ks ps zs) (past : Past n zeros zeros zeros ks ps zs) where
+module _ (ks ps zs : List ℕ) (o : Option (List Entry)) (n : ℕ) (read : rows_read (Here.Some n) ks ps zs ≡ o) where
+  module _ (few : n ≤ 128) (lends : Lends ks ps zs) (past : Past n zeros zeros zeros ks ps zs) where
     is : o ≡ some (entries_of (take n ks) (take n ps) (take n zs))
-    is = sym read ∙ by n some'
-      where
-        by : (m : ℕ) → (m ≡ 0 → ⊥) → rows_read m ks ps zs ≡ some (entries_of (take m ks) (take m ps) (take m zs))
-        by zero nz = absurd (nz refl)
-        by (suc m) nz = refl
+    is = sym read
 
     parted : Apart (take n ks) (take n ps) (take n zs)
     parted =

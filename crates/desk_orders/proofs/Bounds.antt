@@ -3,7 +3,7 @@ use Prim.Native.Nat.{ℕ, zero, suc, ◌+◌, ◌*◌, ◌^◌, ◌≤◌, ◌<�
 use native.Mathlib.Omega.{arith}
 use native.Mathlib.Nat.{pow-le-pow_right}
 use mathlib.Core.Path.{◌≡◌, refl, subst}
-use mathlib.Core.Bool.{Bool, true, false, cond, ◌&&◌}
+use mathlib.Core.Bool.{Bool, true, false, cond}
 use mathlib.Core.List.{List, [], ◌∷◌}
 use mathlib.Core.Option.{Option, none, some}
 use lib.Dec.{leb}
@@ -18,7 +18,7 @@ use Rattle.model.proofs.Lists.{all_of, all_map, by_test}
 use Rattle.desk_lines.specs.Parts.{longest, whole, too_long}
 use Rattle.desk_orders.specs.Orders.{Wanted, set, drops, dump, malformed, begins}
 use Rattle.desk_rows.specs.Rows.{fields, digits_from, number, row, and_rows, rows_in}
-use Rattle.desk_orders.specs.Orders.{is_empty, set_word, drop_word, dump_word, setting, dropping, asked, ordered, wanted}
+use Rattle.desk_orders.specs.Orders.{is_word, set_word, drop_word, dump_word, setting, dropping, asked, ordered, wanted}
 use Rattle.desk_rows.proofs.Spelt.{value_more}
 
 no_number : {A : Type 0} {x : A} → none ≡ some x → ⊥
@@ -115,7 +115,7 @@ unfolding asked
 asked_fits l =
     by_test WantedFits (begins set_word l) (λ e. setting_fits (rows_in true (fields (drop 4 l))) (rows_fit true (fields (drop 4 l)))) (λ e.
     by_test WantedFits (begins drop_word l) (λ e. dropping_fits (rows_in false (fields (drop 5 l))) (rows_fit false (fields (drop 5 l)))) (λ e.
-    by_test WantedFits (begins dump_word l && is_empty (drop 4 l)) {x = dump} {y = malformed} (λ e. tt) (λ e. tt)))
+    by_test WantedFits (is_word dump_word l) {x = dump} {y = malformed} (λ e. tt) (λ e. tt)))
 
 pub wanted_fits : (l : List ℕ) → WantedFits (wanted l)
 wanted_fits l = by (leb (length l) longest)

@@ -1,6 +1,8 @@
 -- What a line of the desk program asks for: `set` with one or more key, place, size triples, `drop` with one or more keys, or `dump`.
 -- Assumes nothing.
-use Rattle.std.specs.Prelude.{ℕ, ◌-◌, Bool, true, false, ◌&&◌, cond, List, [], ◌∷◌, ◌++◌, map, length, drop, replicate, eqb}
+use Rattle.std.specs.Prelude.{ℕ, ◌-◌, Bool, true, false, cond, List, [], ◌∷◌, ◌++◌, map, length, drop, replicate, nat_eq}
+use Rattle.std.specs.List.{starts_with}
+use Rattle.std.specs.Cmp.Lexicographic.{pointwise}
 use Rattle.std.proofs.Math.Option.{Option, none, some}
 use Rattle.model.specs.declared.Entry.{Entry}
 use Rattle.desk_orders.specs.declared.Order.{Order}
@@ -17,14 +19,13 @@ pub data Wanted : Type 0 where
 
 -- ORDERS
 
-unfoldable pub begins : List ℕ → List ℕ → Bool
-begins [] l = true
-begins (a ∷ w) [] = false
-begins (a ∷ w) (b ∷ l) = eqb b a && begins w l
+-- a line begins with a word
+abbrev pub begins : List ℕ → List ℕ → Bool
+begins w l = starts_with nat_eq l w
 
-unfoldable pub is_empty : List ℕ → Bool
-is_empty [] = true
-is_empty (b ∷ bs) = false
+-- it is the word
+abbrev pub is_word : List ℕ → List ℕ → Bool
+is_word w l = pointwise nat_eq l w
 
 abbrev pub set_word : List ℕ
 set_word = 115 ∷ 101 ∷ 116 ∷ 32 ∷ []
@@ -47,7 +48,7 @@ unfoldable pub asked : List ℕ → Wanted
 asked l =
     cond (begins set_word l) (setting (rows_in true (fields (drop 4 l))))
     (cond (begins drop_word l) (dropping (rows_in false (fields (drop 5 l))))
-    (cond (begins dump_word l && is_empty (drop 4 l)) dump
+    (cond (is_word dump_word l) dump
     malformed))
 
 -- a line that is too long is malformed, whatever stands in it

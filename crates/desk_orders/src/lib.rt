@@ -5,7 +5,8 @@ mod read; // what a line asks for
 
 pub use read::read_order;
 
-// What a line asks for: so many rows are set, so many keys dropped, all frames shown.
+// What a line asks for: so many rows are set, so many keys dropped, all frames shown. (No Option for a malformed line: its numbers are told like those of
+// any other, all zero.)
 #[derive(Clone, Copy)]
 pub enum Order {
     Set(usize),

@@ -1,6 +1,6 @@
 // What a line asks for.
 ghost use Rattle.std.specs.Prelude.{◌≡◌, ◌≤◌, true, false, [], length};
-ghost use Rattle.desk_orders.specs.Orders.{wanted, reading, reading_of, begins, setting, dropping};
+ghost use Rattle.desk_orders.specs.Orders.{wanted, reading, reading_of, setting, dropping};
 ghost use Rattle.desk_rows.specs.Rows.{rows_in};
 ghost use Rattle.desk_rows.specs.Numbers.{fields_from};
 
@@ -16,16 +16,14 @@ pub fn read_order(line: &[u8]) -> Reading
     if LONGEST < line.len() {
         return no_rows(Order::Malformed);
     }
-    if starts(line, b"set ") {
+    if line.starts_with(b"set ") {
         return read_set(line);
     }
-    if starts(line, b"drop ") {
+    if line.starts_with(b"drop ") {
         return read_drop(line);
     }
-    if starts(line, b"dump") {
-        if line.len() == 4 {
-            return no_rows(Order::Dump);
-        }
+    if line == b"dump".as_slice() {
+        return no_rows(Order::Dump);
     }
     no_rows(Order::Malformed)
 }
@@ -50,10 +48,9 @@ fn read_set(line: &[u8]) -> Reading
     let mut keys = [0u64; 128];
     let mut places = [0u64; 128];
     let mut sizes = [0u32; 128];
-    let n = read_rows(line, 4, true, &mut keys, &mut places, &mut sizes);
-    if n == 0 {
+    let Some(n) = read_rows(line, 4, true, &mut keys, &mut places, &mut sizes) else {
         return no_rows(Order::Malformed);
-    }
+    };
     Reading {
         order: Order::Set(n),
         keys,
@@ -62,7 +59,7 @@ fn read_set(line: &[u8]) -> Reading
     }
 }
 
-// Reads the keys behind `drop `.
+// Reads the keys behind `drop `. (Not one function with `read_set`: a drop has zeros for places and sizes, whatever stands in the rows.)
 fn read_drop(line: &[u8]) -> Reading
     requires { (5 ≤ length line.now) × (length line.now ≤ 255) }
     ensures { result ≡ reading_of (dropping (rows_in false (fields_from line.now 5))) }
@@ -70,31 +67,13 @@ fn read_drop(line: &[u8]) -> Reading
     let mut keys = [0u64; 128];
     let mut places = [0u64; 128];
     let mut sizes = [0u32; 128];
-    let n = read_rows(line, 5, false, &mut keys, &mut places, &mut sizes);
-    if n == 0 {
+    let Some(n) = read_rows(line, 5, false, &mut keys, &mut places, &mut sizes) else {
         return no_rows(Order::Malformed);
-    }
+    };
     Reading {
         order: Order::Drop(n),
         keys,
         places: [0; 128],
         sizes: [0; 128],
     }
-}
-
-// Whether a line begins with a word.
-fn starts(line: &[u8], word: &[u8]) -> bool
-    ensures { result ≡ begins word.now line.now }
-{
-    let mut i = 0;
-    while i < word.len() {
-        if line.len() <= i {
-            return false;
-        }
-        if line[i] != word[i] {
-            return false;
-        }
-        i += 1;
-    }
-    true
 }

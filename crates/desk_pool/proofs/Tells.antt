@@ -3,15 +3,15 @@ use Prim.Native.Nat.{ℕ}
 use mathlib.Core.Path.{◌≡◌, refl, sym, ap, ◌∙◌, subst}
 use mathlib.Core.List.{List}
 use lib.ListN.{length}
+use Rattle.std.specs.Prelude.{Result, Ok, Err}
 use Rattle.model.specs.declared.Counts.{Counts}
+use Rattle.model.specs.declared.Refusal.{Refusal}
 use Rattle.model.specs.Change.{Batched}
-use Rattle.model.specs.Answer.{Answer, refused, done}
+use Rattle.model.specs.Answer.{Answer, refused, done, number}
 use Rattle.model.specs.Refuse.{Call}
 use Rattle.model.specs.Forest.{answer_at}
 use Rattle.model.proofs.Answers.{refused_done}
 use Rattle.tree.specs.Pool.{given_in, forest_of}
-use Rattle.index_promise.specs.declared.BatchAnswer.{BatchAnswer}
-use Rattle.index_promise.specs.declared.BatchAnswer.TheVariants as Batch
 use Rattle.index_promise.specs.Promise.{holds, fails, Left, ◌leaving◌, leaves, Batches}
 use Rattle.desk_text.specs.Texts.{over, done_text, refused_text}
 use Rattle.desk_text.proofs.Overs.{over_first}
@@ -43,20 +43,23 @@ module _ (c : Call) (l m t t' : List ℕ) (k : ℕ) where
         same : done n ≡ done y.counts → n ≡ y.counts
         same h = cc
 
-    pub batch_done : (r : BatchAnswer) → r ≡ Batch.Done n → Batches 0 c l r m → Changes c l t (record { count = k; pool = m; text = t' })
+    pub batch_done : (r : Result Counts Refusal) → r ≡ Ok n → Batches 0 c l r m → Changes c l t (record { count = k; pool = m; text = t' })
     batch_done r e p = by (subst (λ q. Batches 0 c l q m) e p)
       where
-        by : Batches 0 c l (Batch.Done n) m → Changes c l t (record { count = k; pool = m; text = t' })
+        by : Batches 0 c l (Ok n) m → Changes c l t (record { count = k; pool = m; text = t' })
         by (fails u f) = absurd (refused_done 2 n (sym (ap (λ (w : Left Counts). w.answer) f)))
         by (holds s f) = holds s (by_done (answer_at (given_in l) 0 c (forest_of l)) f)
 
-  module _ (n : ℕ) (a : k ≡ length (refused_text n)) (b : t' ≡ over 0 (refused_text n) t) where
+  module _ (why : Refusal) (a : k ≡ length (refused_text (number why))) (b : t' ≡ over 0 (refused_text (number why)) t) where
+    abbrev n : ℕ
+    n = number why
+
     refusing_by : (i : ℕ) → ◌≡◌ {A = Left Counts} (refused n leaving m) (refused i leaving l)
         → record { count = k; pool = m; text = t' } ≡ outcome t (refusing l i)
     refusing_by i e =
-        let number : n ≡ i = same (ap (λ (w : Left Counts). w.answer) e) in
-        told (refusing l i) k m t t' (a ∙ ap (λ x. length (refused_text x)) number) (ap (λ (w : Left Counts). w.bytes) e)
-        (b ∙ ap (λ x. over 0 (refused_text x) t) number)
+        let is : n ≡ i = same (ap (λ (w : Left Counts). w.answer) e) in
+        told (refusing l i) k m t t' (a ∙ ap (λ x. length (refused_text x)) is) (ap (λ (w : Left Counts). w.bytes) e)
+        (b ∙ ap (λ x. over 0 (refused_text x) t) is)
       where
         same : ◌≡◌ {A = Answer Counts} (refused n) (refused i) → n ≡ i
         same h = cc
@@ -65,9 +68,9 @@ module _ (c : Call) (l m t t' : List ℕ) (k : ℕ) where
     by_refused (refused i) e = refusing_by i e
     by_refused (done y) e = absurd (refused_done n y.counts (ap (λ (w : Left Counts). w.answer) e))
 
-    pub batch_refused : (r : BatchAnswer) → r ≡ Batch.Refused n → Batches 0 c l r m → Changes c l t (record { count = k; pool = m; text = t' })
+    pub batch_refused : (r : Result Counts Refusal) → r ≡ Err why → Batches 0 c l r m → Changes c l t (record { count = k; pool = m; text = t' })
     batch_refused r e p = by (subst (λ q. Batches 0 c l q m) e p)
       where
-        by : Batches 0 c l (Batch.Refused n) m → Changes c l t (record { count = k; pool = m; text = t' })
+        by : Batches 0 c l (Err why) m → Changes c l t (record { count = k; pool = m; text = t' })
         by (fails u f) = fails u (refusing_by 2 f)
         by (holds s f) = holds s (by_refused (answer_at (given_in l) 0 c (forest_of l)) f)

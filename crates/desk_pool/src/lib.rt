@@ -2,12 +2,11 @@
 #![tactic(auto)]
 
 ghost use Rattle.std.specs.Prelude.{◌≡◌};
-ghost use Rattle.model.specs.Refuse.{call};
+ghost use Rattle.model.specs.Refuse.{called};
 ghost use Rattle.desk_promise.specs.Promise.{opened, Changes};
 
 use desk_promise::TREE;
-use index_promise::BatchAnswer;
-use model::{Limits, Operation, PoolSettings};
+use model::{Batch, Limits, PoolSettings};
 
 // Makes the desk's pool two empty leaves, whatever it held: 16 nodes, and order 4 and minimum 2 of either tree.
 pub fn open(pool: &mut [u8; 3392])
@@ -22,23 +21,17 @@ pub fn open(pool: &mut [u8; 3392])
         first: tree,
         second: tree,
     };
-    index::open(pool, desk);
+    // settings in limits, and the pool has just their length
+    index::open(pool, desk).unwrap();
 }
 
 // One batch on it, and its answer as text in the first bytes of `text`; tells the length of that.
-pub fn change(
-    pool: &mut [u8; 3392],
-    keys: &[u64],
-    places: &[u64],
-    sizes: &[u32],
-    op: Operation,
-    text: &mut [u8; 4096],
-) -> usize
-    ensures { Changes (call op places.now sizes.now keys.now)
+pub fn change(pool: &mut [u8; 3392], batch: &Batch, text: &mut [u8; 4096]) -> usize
+    ensures { Changes (called batch.now)
         pool.old text.old (record { count = result; pool = pool.new; text = text.new }) }
 {
-    match index::batch(pool, TREE, keys, places, sizes, op) {
-        BatchAnswer::Done(counts) => desk_text::say_done(text, counts),
-        BatchAnswer::Refused(n) => desk_text::say_refused(text, n),
+    match index::batch(pool, TREE, batch) {
+        Ok(counts) => desk_text::say_done(text, counts),
+        Err(why) => desk_text::say_refused(text, why),
     }
 }

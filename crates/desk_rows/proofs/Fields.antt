@@ -1,5 +1,5 @@
 -- A line field by field: the first field ends at a space or with the line, and the others begin behind the space. Assumes nothing.
-use Prim.Native.Nat.{ℕ, zero, suc, ◌+◌, ◌-◌, ◌*◌, ◌<◌, ◌≤◌}
+use Prim.Native.Nat.{ℕ, suc, ◌+◌, ◌-◌, ◌*◌, ◌<◌, ◌≤◌}
 use native.Mathlib.Omega.{arith}
 use mathlib.Core.Path.{◌≡◌, refl, ap, sym, ◌∙◌}
 use mathlib.Core.Bool.{Bool, true, false, cond}
@@ -15,7 +15,7 @@ use Rattle.desk_lines.specs.Lines.{onto, up_to, end_of}
 use Rattle.desk_rows.specs.Rows.{fields, number, rows_in, and_rows, row}
 use Rattle.desk_rows.specs.Numbers.{field_at, fields_from, first_number, entries_of, rows_read, Lends, Past, NumberAt, NextAt}
 use Rattle.desk_rows.specs.declared.digits.Number.{Number}
-use Rattle.desk_rows.specs.declared.digits.Number.TheVariants as N
+use Rattle.std.specs.Prelude as Here
 
 -- the fields behind the first
 abbrev behind : List ℕ → List (List ℕ)
@@ -119,7 +119,7 @@ third_none f p (z ∷ fs) e = rw (e, no_third (number 16 f) (number 16 p)) refl
 module _ (l : List ℕ) where
   -- the number of the field behind one that ends at `end`
   abbrev Next : ℕ → ℕ → ℕ → ℕ → Type 0
-  Next end most v e = NextAt l end most (N.Good v e)
+  Next end most v e = NextAt l end most (Here.Some (record { value = v; end = e }))
 
   next_first : (end most v e : ℕ) → Next end most v e → fields_from l (end + 1) ≡ field_at l (end + 1) ∷ fields_from l (e + 1)
   next_first end most v e n = rw n.1 (field_first l (end + 1) (omega (arith, n.2, n.3)))
@@ -153,9 +153,9 @@ module _ (l : List ℕ) where
 pub next_none : (l : List ℕ) (end most : ℕ) → end ≡ length l → first_number most (fields_from l (end + 1)) ≡ none
 next_none l end most e = let h : length l < end + 1 = omega arith in simp (lt-leb _ _ h) refl
 
-pub next_is : (l : List ℕ) (end most : ℕ) (r : Number) → end + 1 ≤ length l → NumberAt l (end + 1) most r → NextAt l end most r
-next_is l end most N.Bad h n = ap (first_number most) (field_first l (end + 1) h) ∙ n
-next_is l end most (N.Good v e) h n = (ap (first_number most) (field_first l (end + 1) h) ∙ n.0, n.1, omega (arith, n.2), n.3, n.4)
+pub next_is : (l : List ℕ) (end most : ℕ) (r : Here.Option Number) → end + 1 ≤ length l → NumberAt l (end + 1) most r → NextAt l end most r
+next_is l end most Here.None h n = ap (first_number most) (field_first l (end + 1) h) ∙ n
+next_is l end most (Here.Some r) h n = (ap (first_number most) (field_first l (end + 1) h) ∙ n.0, n.1, omega (arith, n.2), n.3, n.4)
 
 -- THE LOOP: n rows are read, and the rest of the line begins at a place
 
@@ -188,7 +188,6 @@ pub record SoFar (triples : Bool) (l : List ℕ) (from : ℕ) (ks₀ ps₀ zs₀
   pub lends : Lends ks ps zs
   pub few : 4 + 2 * n ≤ at
   pub within : at ≤ length l + 1
-  pub some : n ≡ 0 → at ≤ length l
   pub past : Past n ks₀ ps₀ zs₀ ks ps zs
   pub going : join_rows (firsts n ks ps zs) (rows_in triples (fields_from l at)) ≡ rows_in triples (fields_from l from)
 
@@ -200,7 +199,6 @@ none_yet triples l from ks ps zs a b c d =
       lends = d;
       few = omega arith;
       within = omega arith;
-      some = λ z. b;
       past = record { keys = refl; places = refl; sizes = refl };
       going = none_before (rows_in triples (fields_from l from));
     }
@@ -233,20 +231,14 @@ module _ {triples : Bool} {l : List ℕ} {from : ℕ} {ks₀ ps₀ zs₀ ks ps z
         };
         few = omega (arith, r.few);
         within = omega arith;
-        some = λ x. absurd (omega arith);
         past =
             record { keys = past_set ks ks₀ n k r.past.keys; places = past_set ps ps₀ n p r.past.places; sizes = past_set zs zs₀ n z r.past.sizes };
         going = rw more (row_more (firsts n ks ps zs) _ (rows_in triples (fields_from l (e + 1)))) ∙ ap (join_rows (firsts n ks ps zs)) (sym q) ∙ r.going;
       }
 
-  pub rows_done : length l < at
-      → (rows_read n ks ps zs ≡ rows_in triples (fields_from l from)) × (Lends ks ps zs × ((n ≤ 128) × ((n ≡ 0 → ⊥) → Past n ks₀ ps₀ zs₀ ks ps zs)))
+  pub rows_done : length l < at → rows_read (Here.Some n) ks ps zs ≡ rows_in triples (fields_from l from)
   unfolding rows_in
-  rows_done h = (by n r.some ∙ r.going, (r.lends, (omega (arith, r.few, r.short, r.within), λ no. r.past)))
+  rows_done h = ap some (sym (append-nil (firsts n ks ps zs))) ∙ ap (join_rows (firsts n ks ps zs)) (sym over) ∙ r.going
     where
       over : rows_in triples (fields_from l at) ≡ some []
       over = simp (lt-leb _ _ h) refl
-
-      by : (m : ℕ) → (m ≡ 0 → at ≤ length l) → rows_read m ks ps zs ≡ join_rows (firsts m ks ps zs) (rows_in triples (fields_from l at))
-      by zero g = absurd (omega (arith, g refl))
-      by (suc m) g = rw (over, append-nil (firsts (suc m) ks ps zs)) refl

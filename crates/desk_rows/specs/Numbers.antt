@@ -1,11 +1,10 @@
 -- What reading a number, a row and the rows of a line promises. Assumes nothing.
-use Rattle.std.specs.Prelude.{ℕ, zero, suc, ◌+◌, ◌^◌, ◌≤◌, ◌<◌, ◌≡◌, Bool, cond, List, [], ◌∷◌, length, take, drop, leb}
+use Rattle.std.specs.Prelude.{ℕ, ◌+◌, ◌^◌, ◌≤◌, ◌<◌, ◌≡◌, Bool, cond, List, [], ◌∷◌, length, take, drop, leb}
 use Rattle.std.proofs.Math.Option.{Option, none, some}
+use Rattle.std.specs.Prelude as Here
 use Rattle.model.specs.declared.Entry.{Entry}
 use Rattle.desk_rows.specs.declared.digits.Number.{Number}
-use Rattle.desk_rows.specs.declared.digits.Number.TheVariants as N
 use Rattle.desk_rows.specs.declared.rows.Row.{Row}
-use Rattle.desk_rows.specs.declared.rows.Row.TheVariants as R
 use Rattle.desk_lines.specs.Lines.{up_to, end_of}
 use Rattle.desk_rows.specs.Rows.{number, fields, rows_in, and_rows}
 
@@ -14,9 +13,10 @@ abbrev pub field_at : List ℕ → ℕ → List ℕ
 field_at l from = up_to 32 (drop from l)
 
 -- a number of at most `most` digits, and the place behind it
-abbrev pub NumberAt : List ℕ → ℕ → ℕ → Number → Type 0
-NumberAt l from most N.Bad = number most (field_at l from) ≡ none
-NumberAt l from most (N.Good v e) = (number most (field_at l from) ≡ some v) × (e ≡ end_of 32 l from) × (from < e) × (e ≤ length l) × (v < 16 ^ most)
+abbrev pub NumberAt : List ℕ → ℕ → ℕ → Here.Option Number → Type 0
+NumberAt l from most Here.None = number most (field_at l from) ≡ none
+NumberAt l from most (Here.Some n) =
+    (number most (field_at l from) ≡ some n.value) × (n.end ≡ end_of 32 l from) × (from < n.end) × (n.end ≤ length l) × (n.value < 16 ^ most)
 
 -- the fields from a place on: none past the line's end
 abbrev pub fields_from : List ℕ → ℕ → List (List ℕ)
@@ -28,15 +28,18 @@ first_number most [] = none
 first_number most (f ∷ fs) = number most f
 
 -- the same of the field behind the one that ends at `end`
-abbrev pub NextAt : List ℕ → ℕ → ℕ → Number → Type 0
-NextAt l end most N.Bad = first_number most (fields_from l (end + 1)) ≡ none
-NextAt l end most (N.Good v e) = (first_number most (fields_from l (end + 1)) ≡ some v) × (e ≡ end_of 32 l (end + 1)) × (end < e) × (e ≤ length l) × (v < 16 ^ most)
+abbrev pub NextAt : List ℕ → ℕ → ℕ → Here.Option Number → Type 0
+NextAt l end most Here.None = first_number most (fields_from l (end + 1)) ≡ none
+NextAt l end most (Here.Some n) =
+    (first_number most (fields_from l (end + 1)) ≡ some n.value) × (n.end ≡ end_of 32 l (end + 1)) × (end < n.end) × (n.end ≤ length l) × (n.value < 16 ^ most)
 
 -- a row, and the place behind it
-abbrev pub RowAt : Bool → List ℕ → ℕ → Row → Type 0
-RowAt triples l at R.Bad = rows_in triples (fields_from l at) ≡ none
-RowAt triples l at (R.Good k p z e) =
-    (rows_in triples (fields_from l at) ≡ and_rows (some (record { key = k; place = p; size = z })) (rows_in triples (fields_from l (e + 1)))) × (at < e) × (e ≤ length l)
+abbrev pub RowAt : Bool → List ℕ → ℕ → Here.Option Row → Type 0
+RowAt triples l at Here.None = rows_in triples (fields_from l at) ≡ none
+RowAt triples l at (Here.Some r) =
+    (rows_in triples (fields_from l at)
+    ≡ and_rows (some (record { key = r.key; place = r.place; size = r.size })) (rows_in triples (fields_from l (r.end + 1))))
+    × (at < r.end) × (r.end ≤ length l)
 
 -- room for the rows of any line
 pub record Lends (ks ps zs : List ℕ) : Type 0 where
@@ -57,7 +60,7 @@ pub record Past (n : ℕ) (ks ps zs ks' ps' zs' : List ℕ) : Type 0 where
   pub places : drop n ps' ≡ drop n ps
   pub sizes : drop n zs' ≡ drop n zs
 
--- the rows read; 0 says that they are malformed
-abbrev pub rows_read : ℕ → List ℕ → List ℕ → List ℕ → Option (List Entry)
-rows_read zero ks ps zs = none
-rows_read (suc n) ks ps zs = some (entries_of (take (suc n) ks) (take (suc n) ps) (take (suc n) zs))
+-- the rows read, where they are not malformed
+abbrev pub rows_read : Here.Option ℕ → List ℕ → List ℕ → List ℕ → Option (List Entry)
+rows_read Here.None ks ps zs = none
+rows_read (Here.Some n) ks ps zs = some (entries_of (take n ks) (take n ps) (take n zs))

@@ -4,34 +4,29 @@ ghost use Rattle.desk_rows.specs.Numbers.{NumberAt};
 
 use desk_lines::find;
 
-// A number, and the place behind it; or none.
+// A number, and the place behind it.
 #[derive(Clone, Copy)]
-pub enum Number {
-    Bad,
-    Good { value: u64, end: usize },
+pub struct Number {
+    pub value: u64,
+    pub end: usize,
 }
 
 // The number of at most `most` digits that begins at `from` and ends with a space or the line.
-pub fn read_number(line: &[u8], from: usize, most: usize) -> Number
+pub fn read_number(line: &[u8], from: usize, most: usize) -> Option<Number>
     requires { (from ≤ length line.now) × (most ≤ 16) }
     ensures { NumberAt line.now from most result }
 {
     let end = find(line, from, b' ');
     if end == from {
-        return Number::Bad;
+        return None;
     }
     if most < end - from {
-        return Number::Bad;
+        return None;
     }
-    let mut i = from;
     let mut value: u64 = 0;
-    while i < end {
-        let d = frame_text::value_of(line[i]);
-        if 16 <= d {
-            return Number::Bad;
-        }
+    for i in from..end {
+        let d = frame_text::value_of(line[i])?;
         value = value * 16 + d;
-        i += 1;
     }
-    Number::Good { value, end }
+    Some(Number { value, end })
 }

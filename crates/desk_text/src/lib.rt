@@ -2,9 +2,10 @@
 #![tactic(auto)]
 
 ghost use Rattle.std.specs.Prelude.{◌+◌, ◌≤◌, ◌≡◌, length};
+ghost use Rattle.model.specs.Answer.{number};
 ghost use Rattle.desk_text.specs.Texts.{over, spaced, done_text, refused_text};
 
-use model::Counts;
+use model::{Counts, Refusal};
 
 // Puts a text at a place, and answers the place behind it.
 pub fn put(bytes: &mut [u8], at: usize, text: &[u8]) -> usize
@@ -12,12 +13,9 @@ pub fn put(bytes: &mut [u8], at: usize, text: &[u8]) -> usize
     ensures end { result ≡ at + length text.now }
     ensures written { bytes.new ≡ over at text.now bytes.old }
 {
-    let mut i = 0;
-    while i < text.len() {
-        bytes[at + i] = text[i];
-        i += 1;
-    }
-    at + i
+    let end = at + text.len();
+    bytes[at..end].copy_from_slice(text);
+    end
 }
 
 // Puts a space and a number in decimal.
@@ -48,12 +46,13 @@ pub fn say_done(bytes: &mut [u8], c: Counts) -> usize
 }
 
 // `refused` and the number.
-pub fn say_refused(bytes: &mut [u8], n: u32) -> usize
+pub fn say_refused(bytes: &mut [u8], why: Refusal) -> usize
     requires { 89 ≤ length bytes.old }
-    ensures end { result ≡ length (refused_text n) }
-    ensures written { bytes.new ≡ over 0 (refused_text n) bytes.old }
+    ensures end { result ≡ length (refused_text (number why)) }
+    ensures written { bytes.new ≡ over 0 (refused_text (number why)) bytes.old }
 {
     let word = put(bytes, 0, b"refused");
-    let number = put_number(bytes, word, n as u64);
-    put(bytes, number, b"\n")
+    let n = u32::from(why);
+    let end = put_number(bytes, word, n as u64);
+    put(bytes, end, b"\n")
 }

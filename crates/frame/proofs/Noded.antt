@@ -30,10 +30,12 @@ use Rattle.tree.proofs.Pools.{sound_held, sound_holds_index, sound_index, sound_
 use Rattle.frame_text.specs.declared.FrameEntry.{FrameEntry}
 use Rattle.frame_text.specs.declared.Kind.TheVariants.{Leaf, Interior}
 use Rattle.frame_text.specs.declared.Contents.{Contents}
-use Rattle.frame.specs.declared.Found.{Found}
-use Rattle.frame.specs.declared.Found.TheVariants.{Node, Left}
-use Rattle.frame_text.specs.declared.WriteAnswer.{WriteAnswer}
-use Rattle.frame_text.specs.declared.WriteAnswer.TheVariants as Write
+use Rattle.std.specs.Prelude.{Result, Err}
+use Rattle.std.specs.declared.ops.ControlFlow.{ControlFlow}
+use Rattle.std.specs.declared.ops.ControlFlow.TheVariants.{Continue, Break}
+use Rattle.model.specs.declared.Refusal.{Refusal}
+use Rattle.model.specs.declared.Refusal.TheVariants as Why
+use Rattle.frame.specs.declared.Stop.{Stop}
 use Rattle.frame_text.specs.Contents as C
 use Rattle.frame_text.specs.Contents.{of_entry, branch_of, of_branch, held, frame_of, contents_of}
 use Rattle.frame_text.specs.Answers.{Writes}
@@ -169,32 +171,41 @@ module _ (l : List ℕ) (st : Settings) (h : ℕ) (k : InPool l st h) where
       subst (λ (x : Settings). ToFind x (words l) h x.root) (sym k.own)
       (subst (λ (y : ℕ). ToFind (settings_in l st.root) (words l) y (settings_in l st.root).root) (sym k.tall) (sound_standing l k.sound st.root))
 
-  own : (i : ℕ) (r : Found) → Located st (words l) h st.root i r → Located (settings_in l st.root) (words l) (index_of l st.root).height (settings_in l st.root).root i r
+  own : (i : ℕ) (r : ControlFlow Stop ℕ) → Located st (words l) h st.root i r
+      → Located (settings_in l st.root) (words l) (index_of l st.root).height (settings_in l st.root).root i r
   own i r f =
       subst (λ (y : ℕ). Located (settings_in l st.root) (words l) y (settings_in l st.root).root i r) k.tall
       (subst (λ (x : Settings). Located x (words l) h x.root i r) k.own f)
 
   -- there is no node i
-  pub node_none : (i left : ℕ) (line : List ℕ) → Located st (words l) h st.root i (Left left)
-      → Writes (write_node i (length line) (index_of l st.root)) line (Write.Refused 14) line
-  node_none i left line f =
-      let past : length (frames_of (index_of l st.root)) ≤ i = omega (arith, frames_long (index_of l st.root).height 0 (index_of l st.root).root, own i (Left left) f) in
-      subst (λ (a : Answer (List ℕ)). Writes a line (Write.Refused 14) line) (sym (ap (written (length line)) (elem_past (frames_of (index_of l st.root)) i past)))
+  pub node_none : (i left : ℕ) (r : ControlFlow Stop ℕ) (line : List ℕ) → r ≡ Continue left → Located st (words l) h st.root i r
+      → Writes (write_node i (length line) (index_of l st.root)) line (Err Why.NoSuchNode) line
+  node_none i left r line e f =
+      let behind = subst (λ (x : ControlFlow Stop ℕ). Located st (words l) h st.root i x) e f in
+      let past : length (frames_of (index_of l st.root)) ≤ i = omega (arith, frames_long (index_of l st.root).height 0 (index_of l st.root).root, own i (Continue left) behind) in
+      subst (λ (a : Answer (List ℕ)). Writes a line (Err Why.NoSuchNode) line) (sym (ap (written (length line)) (elem_past (frames_of (index_of l st.root)) i past)))
       (record { answer = refl; line = refl })
 
-  pub node_low : (i t g : ℕ) → Located st (words l) h st.root i (Node t g) → i ≤ 16384
-  node_low i t g f = omega (arith, f.1.0, node_standing.few)
+  -- where the walk stops
+  pub node_found : (i : ℕ) (r : ControlFlow Stop ℕ) (node : Stop) → r ≡ Break node → Located st (words l) h st.root i r → Located st (words l) h st.root i (Break node)
+  node_found i r node e f = subst (λ (x : ControlFlow Stop ℕ). Located st (words l) h st.root i x) e f
+
+  pub node_low : (i : ℕ) (node : Stop) → Located st (words l) h st.root i (Break node) → i ≤ 16384
+  node_low i node f = omega (arith, f.1.0, node_standing.few)
 
   -- the frame of node i
-  pub node_written : (i t g : ℕ) (c : Contents) (line after : List ℕ) (r : WriteAnswer) → Located st (words l) h st.root i (Node t g)
-      → c ≡ contents_of (frame_at g i (tree_at (nodes st (words l)) g t)) → Writes (fitted (length line) (line_of (frame_of c))) line r after
+  pub node_written : (i : ℕ) (node : Stop) (c : Contents) (line after : List ℕ) (r : Result ℕ Refusal) → Located st (words l) h st.root i (Break node)
+      → c ≡ contents_of (frame_at node.height i (tree_at (nodes st (words l)) node.height node.slot))
+      → Writes (fitted (length line) (line_of (frame_of c))) line r after
       → Writes (write_node i (length line) (index_of l st.root)) line r after
-  node_written i t g c line after r f e w =
+  node_written i node c line after r f e w =
+      let g = node.height in
+      let t = node.slot in
       let x : Frame = frame_at g i (tree_at (nodes st (words l)) g t) in
       let z : 0 + i ≡ i = omega arith in
       let same : frame_of c ≡ frame_at g i (tree_at (nodes st (words l)) g t) = ap frame_of e ∙ frame_contents x in
       let there : get_elem? (frames_of (index_of l st.root)) i ≡ some (frame_at g i (tree_at (nodes st (words l)) g t)) =
-      (own i (Node t g) f).1.1 0 ∙ ap (λ (j : ℕ). some (frame_at g j (tree_at (nodes (settings_in l st.root) (words l)) g t))) z
+      (own i (Break node) f).1.1 0 ∙ ap (λ (j : ℕ). some (frame_at g j (tree_at (nodes (settings_in l st.root) (words l)) g t))) z
       ∙ ap (λ (y : Settings). some (frame_at g i (tree_at (nodes y (words l)) g t))) (sym k.own) in
       subst (λ (a : Answer (List ℕ)). Writes a line r after)
       (ap (λ (y : Frame). fitted (length line) (line_of y)) same ∙ sym (ap (written (length line)) there)) w

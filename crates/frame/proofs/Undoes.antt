@@ -11,48 +11,39 @@ use lib.Dec.{ltb}
 use lib.ListN.{length, take, drop, get_elem?}
 use lib.Seq.{take_at}
 use borrow.Author.Tests.{le-ltb}
-use Rattle.model.specs.Answer.{Answer, done}
+use Rattle.std.specs.Prelude.{Result, Ok, Err}
+use Rattle.model.specs.declared.Refusal.{Refusal}
+use Rattle.model.specs.Answer.{Answer, done, refused, number}
 use Rattle.model.specs.Lists.{All, none, one}
 use Rattle.model.specs.Frame.{Frame, keys_of, line_of, frames_of, rising, entries_refusal, fitted, written, write_frame}
 use Rattle.model.specs.ReadFrame.{read_line}
 use Rattle.model.proofs.Answers.{refused_done}
+use Rattle.model.proofs.Refusals.{number_only, told_only}
 use Rattle.model.proofs.Frames.{read_written, write_read, read_fits}
 use Rattle.model.proofs.Readable.{frames_read_lem}
 use Rattle.model.specs.Forest.{elsewhere}
 use Rattle.tree.specs.Pool.{index_of, settings_in, forest_of}
 use Rattle.tree.proofs.Pools.{sound_index}
 use Rattle.frame_text.specs.declared.Contents.{Contents}
-use Rattle.frame_text.specs.declared.WriteAnswer.{WriteAnswer}
-use Rattle.frame_text.specs.declared.WriteAnswer.TheVariants as Write
-use Rattle.frame_text.specs.declared.ReadAnswer.{ReadAnswer}
-use Rattle.frame_text.specs.declared.ReadAnswer.TheVariants as Read
-use Rattle.frame_text.specs.declared.Reading.{Reading}
 use Rattle.frame_text.specs.Contents.{frame_of, contents_of}
-use Rattle.frame_text.specs.Answers.{length_told, length_in, line_after, Writes, frame_told, Reads}
-use Rattle.frame.specs.Undo.{OneWritten, OneRead, read_as, ReadsWritten, ReadsNode, WritesRead}
+use Rattle.frame_text.specs.Answers.{length_in, line_after, Writes, frame_told, Reads}
+use Rattle.frame.specs.Undo.{OneWritten, OneRead, ReadsWritten, ReadsNode, WritesRead}
 
 -- ONE ANSWER
 
-pub told_same : (r q : WriteAnswer) → length_told r ≡ length_told q → r ≡ q
-told_same (Write.Done n) (Write.Done m) e = let z : n ≡ m = cc in ap Write.Done z
-told_same (Write.Done n) (Write.Refused m) e = absurd (refused_done m n (sym e))
-told_same (Write.Refused n) (Write.Done m) e = absurd (refused_done n m e)
-told_same (Write.Refused n) (Write.Refused m) e = let z : n ≡ m = cc in ap Write.Refused z
-
 pub one_written : OneWritten
-one_written a l₀ l m r q f g = (told_same r q (f.answer ∙ sym g.answer), f.line ∙ sym g.line)
-
-read_same : (r q : ReadAnswer) (c d : Contents) → frame_told r c ≡ frame_told q d → r ≡ q
-read_same Read.Done Read.Done c d e = refl
-read_same Read.Done (Read.Refused m) c d e = absurd (refused_done m (frame_of c) (sym e))
-read_same (Read.Refused n) Read.Done c d e = absurd (refused_done n (frame_of d) e)
-read_same (Read.Refused n) (Read.Refused m) c d e = let z : n ≡ m = cc in ap Read.Refused z
+one_written a l₀ l m r q f g = (told_only r q (f.answer ∙ sym g.answer), f.line ∙ sym g.line)
 
 pub one_read : OneRead
-one_read a r q f g =
-    let answer = read_same r.answer q.answer r.contents q.contents (f.answer ∙ sym g.answer) in
-    let contents = f.zeros ∙ sym g.zeros in
-    λ j. record { answer = answer j; contents = contents j }
+one_read a (Ok c) (Ok d) f g =
+    let same : done (frame_of c) ≡ done (frame_of d) = f.answer ∙ sym g.answer in
+    let frame : frame_of c ≡ frame_of d = cc in
+    ap Ok (f.zeros c refl ∙ ap contents_of frame ∙ sym (g.zeros d refl))
+one_read a (Ok c) (Err q) f g = absurd (refused_done (number q) (frame_of c) (g.answer ∙ sym f.answer))
+one_read a (Err r) (Ok d) f g = absurd (refused_done (number r) (frame_of d) (f.answer ∙ sym g.answer))
+one_read a (Err r) (Err q) f g =
+    let same : ◌≡◌ {A = Answer Frame} (refused (number r)) (refused (number q)) = f.answer ∙ sym g.answer in
+    ap Err (number_only r q cc)
 
 -- WHAT WAS WRITTEN
 
@@ -93,20 +84,17 @@ zero_passed room f = go (ltb 32 (length (keys_of f))) (rising (keys_of f)) refl 
 -- READ BACK
 
 -- a line that was written is read as its frame
-line_back : (f : Frame) (a : Answer (List ℕ)) (l₀ l : List ℕ) (n : ℕ) (r : Reading) → a ≡ done (line_of f) → n ≡ length (line_of f) → l ≡ line_after a l₀
-    → read_line (line_of f) ≡ done f → Reads (read_line (take n l)) r → r ≡ read_as f
+line_back : (f : Frame) (a : Answer (List ℕ)) (l₀ l : List ℕ) (n : ℕ) (r : Result Contents Refusal) → a ≡ done (line_of f) → n ≡ length (line_of f)
+    → l ≡ line_after a l₀ → read_line (line_of f) ≡ done f → Reads (read_line (take n l)) r → r ≡ Ok (contents_of f)
 line_back f a l₀ l n r e k w h g =
     let front : take n l ≡ line_of f =
     ap (take n) (w ∙ ap (λ (x : Answer (List ℕ)). line_after x l₀) e) ∙ take_at (line_of f) (drop (length (line_of f)) l₀) n (sym k) in
     let same : read_line (take n l) ≡ done f = ap read_line front ∙ h in
-    let told : frame_told r.answer r.contents ≡ done f = g.answer ∙ same in
-    let contents : r.contents ≡ contents_of f = g.zeros ∙ rw same refl in
-    let answer : r.answer ≡ Read.Done = told_done r.answer r.contents f told in
-    λ j. record { answer = answer j; contents = contents j }
+    holds r (g.answer ∙ same) g.zeros
   where
-    told_done : (x : ReadAnswer) (c : Contents) (f : Frame) → frame_told x c ≡ done f → x ≡ Read.Done
-    told_done Read.Done c f q = refl
-    told_done (Read.Refused m) c f q = absurd (refused_done m f q)
+    holds : (x : Result Contents Refusal) → frame_told x ≡ done f → ((c : Contents) → x ≡ Ok c → c ≡ contents_of (frame_of c)) → x ≡ Ok (contents_of f)
+    holds (Ok c) q z = let frame : frame_of c ≡ f = cc in ap Ok (z c refl ∙ ap contents_of frame)
+    holds (Err m) q z = absurd (refused_done (number m) f q)
 
 pub reads_written : ReadsWritten
 reads_written c l₀ l n r fit w g =
@@ -126,8 +114,8 @@ reads_node p tree i l₀ l n r sound w g =
     found (x ∷ fs) (suc i) f (one h hs) e = found fs i f hs e
 
     go : (fs : List Frame) (i : ℕ) (o : Option Frame) → get_elem? fs i ≡ o → All (λ x. read_line (line_of x) ≡ done x) fs
-        → Writes (written (length l₀) (get_elem? fs i)) l₀ (Write.Done n) l
-        → (f : Frame) × ((get_elem? fs i ≡ some f) × (r ≡ read_as f))
+        → Writes (written (length l₀) (get_elem? fs i)) l₀ (Ok n) l
+        → (f : Frame) × ((get_elem? fs i ≡ some f) × (r ≡ Ok (contents_of f)))
     go fs i O.none e all v = absurd (refused_done 14 n (sym (v.answer ∙ ap (λ (o : Option Frame). length_in (written (length l₀) o)) e)))
     go fs i (some f) e all v =
         let on : written (length l₀) (get_elem? fs i) ≡ fitted (length l₀) (line_of f) = ap (written (length l₀)) e in
@@ -137,12 +125,12 @@ reads_node p tree i l₀ l n r sound w g =
 -- WRITTEN BACK
 
 pub writes_read : WritesRead
-writes_read s l₀ l r w g d room v =
-    let f : Frame = frame_of r.contents in
-    let e : read_line s ≡ done (frame_of r.contents) = sym g.answer ∙ ap (λ (x : ReadAnswer). frame_told x r.contents) d in
-    let same : line_of (frame_of r.contents) ≡ s = write_read s f e in
-    let p : Passed (length l₀) (frame_of r.contents) = zero_passed (length l₀) f (read_fits s f e).1 in
-    let fits : fitted (length l₀) (line_of (frame_of r.contents)) ≡ done (line_of (frame_of r.contents)) =
-    rw (le-ltb (length l₀) (length (line_of (frame_of r.contents))) (omega (arith, ap length same))) refl in
-    let owed : write_frame (length l₀) (frame_of r.contents) ≡ done s = p.on ∙ fits ∙ ap done same in
-    (told_same w (Write.Done (length s)) (v.answer ∙ ap length_in owed), v.line ∙ ap (λ (x : Answer (List ℕ)). line_after x l₀) owed)
+writes_read s l₀ l c w g room v =
+    let f : Frame = frame_of c in
+    let e : read_line s ≡ done (frame_of c) = sym g.answer in
+    let same : line_of (frame_of c) ≡ s = write_read s f e in
+    let p : Passed (length l₀) (frame_of c) = zero_passed (length l₀) f (read_fits s f e).1 in
+    let fits : fitted (length l₀) (line_of (frame_of c)) ≡ done (line_of (frame_of c)) =
+    rw (le-ltb (length l₀) (length (line_of (frame_of c))) (omega (arith, ap length same))) refl in
+    let owed : write_frame (length l₀) (frame_of c) ≡ done s = p.on ∙ fits ∙ ap done same in
+    (told_only w (Ok (length s)) (v.answer ∙ ap length_in owed), v.line ∙ ap (λ (x : Answer (List ℕ)). line_after x l₀) owed)

@@ -1,5 +1,5 @@
 -- The walk over a pool's slots: what stands below a node, how many nodes stand before a child, and which frame has number i. Assumes nothing.
-use mathlib.Core.Path.{◌≡◌, refl, ap, subst, ◌∙◌}
+use mathlib.Core.Path.{◌≡◌, refl, sym, ap, subst, ◌∙◌}
 use mathlib.Core.List.{List, [], ◌∷◌, ◌++◌, map}
 use mathlib.Core.Option.{none, some, none-ne-some}
 use Prim.Native.Nat.{ℕ, zero, suc, ◌+◌, ◌-◌, ◌≤◌, ◌<◌}
@@ -20,7 +20,9 @@ use Rattle.model.proofs.Lists.{all_head, all_tail, parts_at}
 use Rattle.model.proofs.Trees.{slots_in, leaf_bare}
 use Rattle.tree.specs.Bridge.{child_of, cells, tree_at}
 use Rattle.tree.proofs.SoundHolds.{slot_read}
-use Rattle.frame.specs.declared.Found.TheVariants.{Node, Left}
+use Rattle.std.specs.declared.ops.ControlFlow.{ControlFlow}
+use Rattle.std.specs.declared.ops.ControlFlow.TheVariants.{Continue, Break}
+use Rattle.frame.specs.declared.Stop.{Stop}
 use Rattle.frame.specs.Frames.{item_at, frame_at}
 use Rattle.frame.specs.Promises.{ToFind, Located}
 
@@ -179,21 +181,21 @@ module _ (st : Settings) (W : List ℕ) where
   abbrev ns : List S.Node
   ns = nodes st W
 
-  pub found_here : (h s : ℕ) → ToFind st W h s → Located st W h s 0 (Node s h)
+  pub found_here : (h s : ℕ) → ToFind st W h s → Located st W h s 0 (Break (record { slot = s; height = h }))
   found_here h s p = (p, (omega (arith, nodes_tree ns h s), λ k. first_frame h k (tree_at ns h s)))
 
-  pub found_none : (h s i left : ℕ) → i ≡ 1 + passed ns h (nth ns s).rows + left → Located st W h s i (Left left)
+  pub found_none : (h s i left : ℕ) → i ≡ 1 + passed ns h (nth ns s).rows + left → Located st W h s i (Continue left)
   found_none h s i left e = omega (arith, nodes_tree ns h s)
 
   -- a node of child j, behind those of the children before it
-  pub found_below : (h s i j left c t g : ℕ) → 0 < h → j < length (nth ns s).rows → c ≡ child_of (get_or (nth ns s).rows j blank)
-      → i ≡ 1 + passed ns h (take j (nth ns s).rows) + left → Located st W (h - 1) c left (Node t g) → Located st W h s i (Node t g)
-  found_below zero s i j left c t g pos k e n f = absurd (omega arith)
-  found_below (suc h) s i j left c t g pos k e n f =
+  found_below : (h s i j left c : ℕ) (node : Stop) → 0 < h → j < length (nth ns s).rows → c ≡ child_of (get_or (nth ns s).rows j blank)
+      → i ≡ 1 + passed ns h (take j (nth ns s).rows) + left → Located st W (h - 1) c left (Break node) → Located st W h s i (Break node)
+  found_below zero s i j left c node pos k e n f = absurd (omega arith)
+  found_below (suc h) s i j left c node pos k e n f =
       let rs = (nth ns s).rows in
       let z : suc h - 1 ≡ h = omega arith in
-      let q : Located st W h (child_of (get_or rs j blank)) left (Node t g) =
-      subst (λ (x : ℕ). Located st W x (child_of (get_or rs j blank)) left (Node t g)) z (subst (λ (y : ℕ). Located st W (suc h - 1) y left (Node t g)) e f) in
+      let q : Located st W h (child_of (get_or rs j blank)) left (Break node) =
+      subst (λ (x : ℕ). Located st W x (child_of (get_or rs j blank)) left (Break node)) z (subst (λ (y : ℕ). Located st W (suc h - 1) y left (Break node)) e f) in
       let next : i ≡ suc (passed ns (suc h) (take j rs) + left) = omega arith in (
         q.0,
         (
@@ -201,15 +203,25 @@ module _ (st : Settings) (W : List ℕ) where
           λ m.
               let up : m + 1 + passed ns (suc h) (take j rs) + left ≡ m + i = omega arith in
               ap (get_elem? (frames_from (suc h) m (tree_at ns (suc h) s))) next
-              ∙ turn_at ns h (m + 1) rs j left (frame_at g (m + i) (tree_at ns g t)) k
+              ∙ turn_at ns h (m + 1) rs j left (frame_at node.height (m + i) (tree_at ns node.height node.slot)) k
               (subst (λ (x : ℕ). get_elem? (frames_from h (m + 1 + passed ns (suc h) (take j rs)) (tree_at ns h (child_of (get_or rs j blank)))) left
-              ≡ some (frame_at g x (tree_at ns g t))) up
+              ≡ some (frame_at node.height x (tree_at ns node.height node.slot))) up
               (q.1.1 (m + 1 + passed ns (suc h) (take j rs)))),
         ),
       )
 
-  -- none of child j
-  pub passed_below : (h s i j left c m : ℕ) → 0 < h → j < length (nth ns s).rows → c ≡ child_of (get_or (nth ns s).rows j blank)
-      → i ≡ 1 + passed ns h (take j (nth ns s).rows) + left → Located st W (h - 1) c left (Left m) → i ≡ 1 + passed ns h (take (j + 1) (nth ns s).rows) + m
-  passed_below h s i j left c m pos k e n f =
-      omega (arith, passed_more ns h (nth ns s).rows j k, nodes_child ns h c (get_or (nth ns s).rows j blank) pos e)
+  -- the walk through child j stops there, and so does the whole
+  pub stops_below : (h s i j left c : ℕ) (r q : ControlFlow Stop ℕ) (node : Stop) → 0 < h → j < length (nth ns s).rows
+      → c ≡ child_of (get_or (nth ns s).rows j blank) → i ≡ 1 + passed ns h (take j (nth ns s).rows) + left → Located st W (h - 1) c left r
+      → r ≡ Break node → q ≡ Break node → Located st W h s i q
+  stops_below h s i j left c r q node pos k e n f stops so =
+      let below = subst (λ (x : ControlFlow Stop ℕ). Located st W (h - 1) c left x) stops f in
+      subst (λ (x : ControlFlow Stop ℕ). Located st W h s i x) (sym so) (found_below h s i j left c node pos k e n below)
+
+  -- or goes on behind it
+  pub goes_on_below : (h s i j left c : ℕ) (r : ControlFlow Stop ℕ) (m : ℕ) → 0 < h → j < length (nth ns s).rows
+      → c ≡ child_of (get_or (nth ns s).rows j blank) → i ≡ 1 + passed ns h (take j (nth ns s).rows) + left → Located st W (h - 1) c left r
+      → r ≡ Continue m → i ≡ 1 + passed ns h (take (j + 1) (nth ns s).rows) + m
+  goes_on_below h s i j left c r m pos k e n f on =
+      let behind = subst (λ (x : ControlFlow Stop ℕ). Located st W (h - 1) c left x) on f in
+      omega (arith, behind, passed_more ns h (nth ns s).rows j k, nodes_child ns h c (get_or (nth ns s).rows j blank) pos e)

@@ -9,9 +9,9 @@ mod preorder; // the walk over a pool's slots
 
 pub use node::write_node;
 
-// Where a walk ends: at a node, with its slot and height, or behind the last one, with how many numbers are left.
+// Where a walk stops: at a node, with its slot and height.
 #[derive(Clone, Copy)]
-pub enum Found {
-    Node(usize, usize),
-    Left(usize),
+pub struct Stop {
+    pub slot: usize,
+    pub height: usize,
 }

@@ -12,31 +12,31 @@ ghost use Rattle.frame_text.specs.Answers.{Writes};
 ghost use Rattle.frame.specs.Promises.{ToFind};
 ghost use Rattle.frame.specs.Frames.{item_at, kind_at, entry_for, frame_at};
 
-use crate::Found;
 use crate::preorder::{find, nodes_in};
-use frame_text::{Contents, FrameEntry, Kind, WriteAnswer, branch, leaf_entry, no_entry};
+use frame_text::{Contents, FrameEntry, Kind, branch, leaf_entry, no_entry};
 use frame_write::put_frame;
-use model::Settings;
+use model::{Refusal, Settings};
 use slots_raw::Row;
+use std::ops::ControlFlow;
 use tree_node::child_at;
 
-// Writes the frame of node `i` in preorder, or refuses with 14 or 16. The settings and the height are the pool's own.
+// Writes the frame of node `i` in preorder, and answers its length. The settings and the height are the pool's own.
 pub fn write_node(
     pool: &[u8],
     st: Settings,
     height: usize,
     i: usize,
     line: &mut [u8],
-) -> WriteAnswer
+) -> Result<usize, Refusal>
     requires { InPool pool.now st height }
     ensures { Writes (write_node i (length line.old) (index_of pool.now st.root)) line.old result line.new }
 {
     match find(pool, st, height, st.root, i) {
-        Found::Node(s, h) => {
-            let contents = contents_at(pool, st, h, s, i);
+        ControlFlow::Break(node) => {
+            let contents = contents_at(pool, st, node.height, node.slot, i);
             put_frame(contents, line)
         }
-        Found::Left(_) => WriteAnswer::Refused(14),
+        ControlFlow::Continue(_) => Err(Refusal::NoSuchNode),
     }
 }
 
@@ -49,12 +49,10 @@ fn contents_at(pool: &[u8], st: Settings, height: usize, s: usize, i: usize) -> 
     let n = slots::count(pool, st, s);
     let mut entries = [no_entry(); 32];
     let mut child = i + 1;
-    let mut j = 0;
-    while j < n {
+    for j in 0..n {
         let row = slots::row_at(pool, st, s, j);
         entries[j] = entry_for(row, height, child);
         child += nodes_under(pool, st, height, s, j);
-        j += 1;
     }
     Contents {
         kind: kind_at(height),

@@ -6,33 +6,36 @@ ghost use Rattle.model.specs.Frame.{nodes_in};
 ghost use Rattle.tree.specs.Bridge.{tree_at};
 ghost use Rattle.frame.specs.Promises.{ToFind, Located};
 
-use crate::Found;
+use crate::Stop;
 use model::Settings;
+use std::ops::ControlFlow;
 use tree_node::child_at;
 
-// Goes through the tree of height `height` in slot `s` in preorder, up to node `i`.
-pub fn find(pool: &[u8], st: Settings, height: usize, s: usize, i: usize) -> Found
+// Goes through the tree of height `height` in slot `s` in preorder, up to node `i`. Where it has fewer nodes the walk goes on behind it, with the number
+// that is left.
+pub fn find(
+    pool: &[u8],
+    st: Settings,
+    height: usize,
+    s: usize,
+    i: usize,
+) -> ControlFlow<Stop, usize>
     requires { ToFind st (words pool.now) height s }
     ensures { Located st (words pool.now) height s i result }
 {
     if i == 0 {
-        return Found::Node(s, height);
+        return ControlFlow::Break(Stop { slot: s, height });
     }
     let mut left = i - 1;
     if height == 0 {
-        return Found::Left(left);
+        return ControlFlow::Continue(left);
     }
     let n = slots::count(pool, st, s);
-    let mut j = 0;
-    while j < n {
+    for j in 0..n {
         let child = child_at(pool, st, s, j);
-        match find(pool, st, height - 1, child, left) {
-            Found::Node(t, h) => return Found::Node(t, h),
-            Found::Left(k) => left = k,
-        }
-        j += 1;
+        left = find(pool, st, height - 1, child, left)?;
     }
-    Found::Left(left)
+    ControlFlow::Continue(left)
 }
 
 // How many nodes the tree of height `height` in slot `s` has.
@@ -45,11 +48,9 @@ pub fn nodes_in(pool: &[u8], st: Settings, height: usize, s: usize) -> usize
         return total;
     }
     let n = slots::count(pool, st, s);
-    let mut j = 0;
-    while j < n {
+    for j in 0..n {
         let child = child_at(pool, st, s, j);
         total += nodes_in(pool, st, height - 1, child);
-        j += 1;
     }
     total
 }

@@ -2,7 +2,6 @@
 #![tactic(auto)]
 
 ghost use Rattle.std.specs.Prelude.{◌≡◌, true, ◌+◌, ◌*◌, ◌≤◌, ◌<◌, length, drop};
-ghost use Rattle.model.specs.Answer.{refused};
 ghost use Rattle.model.specs.ReadFrame.{read_line};
 ghost use Rattle.frame_text.specs.declared.Kind.TheVariants.{Leaf, Interior};
 ghost use Rattle.frame_text.specs.Contents.{held};
@@ -11,48 +10,27 @@ ghost use Rattle.frame_text.specs.Digits.{is_hex, pairs};
 ghost use Rattle.frame_text.specs.Entries.{start_of, entry_in, entries_in, rest_of};
 
 use frame_text::{
-    Contents, FrameEntry, Kind, ReadAnswer, Reading, ascending, branch, is_hex, leaf_entry,
-    no_entry, number, start_of, width,
+    Contents, FrameEntry, Kind, ascending, branch, is_hex, leaf_entry, no_entry, number, start_of,
+    width,
 };
-use model::Totals;
+use model::{Refusal, Totals};
 
-// Reads a line, or refuses with 8 to 13. (The Rust's `deserialize_from`.)
-pub fn read(line: &[u8]) -> Reading
+// Reads a line. (The Rust's `deserialize_from`.)
+pub fn read(line: &[u8]) -> Result<Contents, Refusal>
     ensures { Reads (read_line line.now) result }
 {
     if line.len() == 0 {
-        return refusal(8);
+        return Err(Refusal::EmptyLine);
     }
     if !is_hex(line) {
-        return refusal(9);
+        return Err(Refusal::NotHex);
     }
-    let header = number(line, 0, 1);
-    if header == 1 {
-        return read_entries(line, Kind::Leaf);
-    }
-    if header == 0 {
-        return read_entries(line, Kind::Interior);
-    }
-    refusal(13)
-}
-
-// A refusal holds no entry.
-fn refusal(n: u32) -> Reading
-    ensures { Reads (refused n) result }
-{
-    let entries = [no_entry(); 32];
-    Reading {
-        answer: ReadAnswer::Refused(n),
-        contents: Contents {
-            kind: Kind::Leaf,
-            count: 0,
-            entries,
-        },
-    }
+    let kind = Kind::try_from(number(line, 0, 1))?;
+    read_entries(line, kind)
 }
 
 // Reads the entries behind a header.
-fn read_entries(line: &[u8], kind: Kind) -> Reading
+fn read_entries(line: &[u8], kind: Kind) -> Result<Contents, Refusal>
     requires digits { is_hex line.now ≡ true }
     requires some { 2 ≤ length line.now }
     ensures { Reads (rest_of kind (drop 1 (pairs line.now))) result }
@@ -60,20 +38,17 @@ fn read_entries(line: &[u8], kind: Kind) -> Reading
     let rest = line.len() / 2 - 1;
     let w = width(kind);
     if rest % w != 0 {
-        return refusal(10);
+        return Err(Refusal::PartOfAnEntry);
     }
     let n = rest / w;
     if 32 < n {
-        return refusal(11);
+        return Err(Refusal::TooManyEntries);
     }
     let contents = entries_in(line, kind, n);
     if !ascending(contents) {
-        return refusal(12);
+        return Err(Refusal::KeysNotAscending);
     }
-    Reading {
-        answer: ReadAnswer::Done,
-        contents,
-    }
+    Ok(contents)
 }
 
 // The first `n` entries of a line.
@@ -84,10 +59,8 @@ fn entries_in(line: &[u8], kind: Kind, n: usize) -> Contents
     ensures { result ≡ held kind (entries_in kind n (drop 1 (pairs line.now))) }
 {
     let mut entries = [no_entry(); 32];
-    let mut i = 0;
-    while i < n {
+    for i in 0..n {
         entries[i] = entry_at(line, kind, i);
-        i += 1;
     }
     Contents {
         kind,

@@ -3,13 +3,14 @@ use mathlib.Core.Path.{◌≡◌, refl, sym, ap, ◌∙◌}
 use mathlib.Core.Bool.{Bool, true, false, ◌&&◌, cond, true≢false}
 use mathlib.Core.List.{List, [], ◌∷◌}
 use mathlib.Core.Option.{none, some}
-use Prim.Native.Nat.{ℕ, zero, suc, ◌+◌, ◌-◌, ◌*◌, ◌/◌, ◌^◌, ◌≤◌, ◌<◌}
+use Rattle.std.specs.Prelude.{Option, None, Some, IsSome, unwrap_or}
+use Prim.Native.Nat.{ℕ, zero, suc, ◌+◌, ◌*◌, ◌/◌, ◌^◌, ◌≤◌, ◌<◌}
 use native.Mathlib.Omega.{arith}
 use native.Mathlib.Nat.{pow-suc, pow-le-pow_right}
 use native.Mathlib.Numerals.{add-one}
 use lib.ListN.{length, take, drop, get_or, length-drop}
-use lib.Seq.{drop-cons, take-suc, get_or-drop}
-use borrow.Author.Tests.{lt-ltb, le-ltb, ltb-true, le-leb, lt-leb}
+use lib.Seq.{take-suc, get_or-drop}
+use borrow.Author.Tests.{ltb-true}
 use Rattle.model.specs.ReadFrame.{value_of, is_digit, onto, unhex, field}
 use Rattle.model.proofs.Lists.{both_left, both_right}
 use Rattle.model.proofs.Frames.{spelt_append}
@@ -17,20 +18,10 @@ use Rattle.frame_text.specs.Digits.{is_hex, pairs}
 
 -- THE VALUE OF A BYTE
 
-pub value_low : (b : ℕ) → b < 48 → 16 ≡ value_of b
-value_low b h = rw (lt-leb 48 b h, lt-leb 97 b (omega arith))
-
-pub value_decimal : (b : ℕ) → 48 ≤ b → b ≤ 57 → b - 48 ≡ value_of b
-value_decimal b h g = rw (le-leb 48 b h, le-leb b 57 g)
-
-pub value_middle : (b : ℕ) → 57 < b → b < 97 → 16 ≡ value_of b
-value_middle b h g = rw (le-leb 48 b (omega arith), lt-leb b 57 h, lt-leb 97 b g)
-
-pub value_letter : (b : ℕ) → 97 ≤ b → b ≤ 102 → b - 87 ≡ value_of b
-value_letter b h g = rw (le-leb 48 b (omega arith), lt-leb b 57 (omega arith), le-leb 97 b h, le-leb b 102 g)
-
-pub value_high : (b : ℕ) → 102 < b → 16 ≡ value_of b
-value_high b h = rw (le-leb 48 b (omega arith), lt-leb b 57 (omega arith), le-leb 97 b (omega arith), lt-leb b 102 h)
+-- a digit has a value
+pub has_value : (o : Option ℕ) (v : ℕ) → unwrap_or o 16 ≡ v → v < 16 → IsSome o
+has_value None v e low = absurd (omega (arith, e))
+has_value (Some d) v e low = refl
 
 -- THE BYTES OF A LINE
 
@@ -73,38 +64,6 @@ pub hex_even : (s : List ℕ) → is_hex s ≡ true → 2 * (length s / 2) ≡ l
 hex_even [] h = refl
 hex_even (a ∷ []) h = absurd (true≢false (sym h))
 hex_even (a ∷ (b ∷ s)) h = omega (arith, hex_even s (both_right (is_digit a && is_digit b) (is_hex s) h))
-
--- WHETHER A LINE IS ONE, from digit i on
-
-module _ (s : List ℕ) (i : ℕ) where
-  pub hex_end : length s ≤ i → is_hex (drop i s) ≡ true
-  hex_end h = ended (drop i s) (omega (arith, length-drop i s))
-    where
-      ended : (l : List ℕ) → length l ≡ 0 → is_hex l ≡ true
-      ended [] e = refl
-      ended (x ∷ l) e = absurd (omega arith)
-
-  pub hex_odd : i < length s → length s - i < 2 → is_hex (drop i s) ≡ false
-  hex_odd h g = odd (drop i s) (omega (arith, length-drop i s)) (omega (arith, length-drop i s))
-    where
-      odd : (l : List ℕ) → 0 < length l → length l < 2 → is_hex l ≡ false
-      odd [] p q = absurd (omega arith)
-      odd (x ∷ []) p q = refl
-      odd (x ∷ (y ∷ l)) p q = absurd (omega arith)
-
-  hex_two : i + 2 ≤ length s → is_hex (drop i s) ≡ ((is_digit (get_or s i 0) && is_digit (get_or s (i + 1) 0)) && is_hex (drop (i + 2) s))
-  hex_two h =
-      let e : i + 2 ≡ suc (i + 1) = omega arith in
-      rw (drop-cons s i 0 (omega arith), ← add-one i, drop-cons s (i + 1) 0 (omega arith), e) refl
-
-  pub hex_first : i + 2 ≤ length s → value_of (get_or s i 0) ≡ 16 → is_hex (drop i s) ≡ false
-  hex_first h e = hex_two h ∙ rw (le-ltb (value_of (get_or s i 0)) 16 (omega arith)) refl
-
-  pub hex_second : i + 2 ≤ length s → value_of (get_or s i 0) < 16 → value_of (get_or s (i + 1) 0) ≡ 16 → is_hex (drop i s) ≡ false
-  hex_second h g e = hex_two h ∙ rw (lt-ltb (value_of (get_or s i 0)) 16 g, le-ltb (value_of (get_or s (i + 1) 0)) 16 (omega arith)) refl
-
-  pub hex_more : i + 2 ≤ length s → value_of (get_or s i 0) < 16 → value_of (get_or s (i + 1) 0) < 16 → is_hex (drop (i + 2) s) ≡ is_hex (drop i s)
-  hex_more h g k = sym (hex_two h ∙ rw (lt-ltb (value_of (get_or s i 0)) 16 g, lt-ltb (value_of (get_or s (i + 1) 0)) 16 k) refl)
 
 -- A NUMBER, a byte at a time
 

@@ -1,5 +1,7 @@
 -- The bytes of a frame by its kind: header, entries, and what a reader makes of them. Assumes nothing.
-use Rattle.std.specs.Prelude.{List, map, ℕ, ◌+◌, ◌*◌, ◌%◌, eqb, length}
+use Rattle.std.specs.Prelude.{◌≡◌, ◌≢◌, List, map, ℕ, ◌+◌, ◌*◌, ◌%◌, eqb, length, Result, Ok, Err}
+use Rattle.model.specs.declared.Refusal.{Refusal}
+use Rattle.model.specs.declared.Refusal.TheVariants as Why
 use Rattle.model.specs.Answer.{Answer}
 use Rattle.model.specs.Frame.{Frame, leaf_bytes, branch_bytes}
 use Rattle.model.specs.ReadFrame.{leaf_entry, branch, parts, leaf_frame, interior_frame, read_rest}
@@ -11,6 +13,11 @@ use Rattle.frame_text.specs.Contents.{entry_of, of_entry, branch_of, of_branch}
 abbrev pub header_of : Kind → ℕ
 header_of Leaf = 1
 header_of Interior = 0
+
+-- what a first byte says: a kind, or refusal 13 where it is no kind's
+abbrev pub Heads : ℕ → Result Kind Refusal → Type 0
+Heads n (Ok k) = n ≡ header_of k
+Heads n (Err why) = (why ≡ Why.UnknownHeader) × ((k : Kind) → n ≢ header_of k)
 
 -- how many bytes an entry has
 abbrev pub width_of : Kind → ℕ

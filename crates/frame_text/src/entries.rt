@@ -2,10 +2,10 @@
 ghost use Rattle.std.specs.Prelude.{◌≡◌, ◌≤◌};
 ghost use Rattle.model.specs.Frame.{keys_of, rising};
 ghost use Rattle.frame_text.specs.Contents.{no_entry, of_entry, of_branch, frame_of};
-ghost use Rattle.frame_text.specs.Entries.{header_of, width_of, start_of};
+ghost use Rattle.frame_text.specs.Entries.{header_of, Heads, width_of, start_of};
 
 use crate::{Contents, FrameEntry, Kind};
-use model::{Reference, Totals};
+use model::{Reference, Refusal, Totals};
 
 // Whether the keys ascend strictly.
 pub fn ascending(contents: Contents) -> bool
@@ -14,14 +14,12 @@ pub fn ascending(contents: Contents) -> bool
 {
     let n = contents.count;
     let entries = contents.entries;
-    let mut i = 1;
-    while i < n {
+    for i in 1..n {
         let low = entries[i - 1];
         let high = entries[i];
         if high.key <= low.key {
             return false;
         }
-        i += 1;
     }
     true
 }
@@ -57,12 +55,29 @@ pub fn branch(key: u64, child: u32, totals: Totals) -> FrameEntry
 }
 
 // The first byte of a frame.
-pub fn header(kind: Kind) -> u64
-    ensures { result ≡ header_of kind }
-{
-    match kind {
-        Kind::Leaf => 1,
-        Kind::Interior => 0,
+impl From<Kind> for u64 {
+    ghost from_gives = { λ k n. n ≡ header_of k };
+
+    fn from(kind: Kind) -> u64 {
+        match kind {
+            Kind::Leaf => 1,
+            Kind::Interior => 0,
+        }
+    }
+}
+
+// The kind that a first byte says.
+impl TryFrom<u64> for Kind {
+    type Error = Refusal;
+
+    ghost try_from_gives = { Heads };
+
+    fn try_from(header: u64) -> Result<Kind, Refusal> {
+        match header {
+            1 => Ok(Kind::Leaf),
+            0 => Ok(Kind::Interior),
+            _ => Err(Refusal::UnknownHeader),
+        }
     }
 }
 

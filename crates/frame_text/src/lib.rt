@@ -7,7 +7,7 @@ mod entries; // a kind and entries by value
 mod digits; // numbers as hexadecimal digits
 
 pub use digits::{is_hex, number, put_number, value_of};
-pub use entries::{ascending, branch, header, leaf_entry, no_entry, start_of, width};
+pub use entries::{ascending, branch, leaf_entry, no_entry, start_of, width};
 
 #[derive(Clone, Copy)]
 pub enum Kind {
@@ -25,30 +25,10 @@ pub struct FrameEntry {
     pub totals: Totals,
 }
 
-// A kind and entries. A frame that was read has zeros past the count.
+// A kind and entries. A frame that was read has zeros past the count. (No vector of at most 32: a caller may give a greater count, and `write` refuses it.)
 #[derive(Clone, Copy)]
 pub struct Contents {
     pub kind: Kind,
     pub count: usize,
     pub entries: [FrameEntry; 32],
-}
-
-// The length of the line that was written, or the number of a refusal.
-#[derive(Clone, Copy)]
-pub enum WriteAnswer {
-    Done(usize),
-    Refused(u32),
-}
-
-// What was read stands beside the answer, since an enum holds no array.
-#[derive(Clone, Copy)]
-pub struct Reading {
-    pub answer: ReadAnswer,
-    pub contents: Contents,
-}
-
-#[derive(Clone, Copy)]
-pub enum ReadAnswer {
-    Done,
-    Refused(u32),
 }

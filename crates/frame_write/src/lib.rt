@@ -8,25 +8,24 @@ ghost use Rattle.frame_text.specs.Answers.{Writes};
 ghost use Rattle.frame_text.specs.Digits.{spelled};
 ghost use Rattle.frame_text.specs.Entries.{start_of, width_of, code_of};
 
-use frame_text::{
-    Contents, FrameEntry, Kind, WriteAnswer, ascending, header, put_number, start_of,
-};
+use frame_text::{Contents, FrameEntry, Kind, ascending, put_number, start_of};
+use model::Refusal;
 
-// Writes the frame of a kind and entries, or refuses with 11, 12 or 16. (The Rust's `serialize_to`.)
-pub fn write(contents: Contents, line: &mut [u8]) -> WriteAnswer
+// Writes the frame of a kind and entries, and answers its length. (The Rust's `serialize_to`.)
+pub fn write(contents: Contents, line: &mut [u8]) -> Result<usize, Refusal>
     ensures { Writes (write_frame (length line.old) (frame_of contents)) line.old result line.new }
 {
     if 32 < contents.count {
-        return WriteAnswer::Refused(11);
+        return Err(Refusal::TooManyEntries);
     }
     if !ascending(contents) {
-        return WriteAnswer::Refused(12);
+        return Err(Refusal::KeysNotAscending);
     }
     put_frame(contents, line)
 }
 
-// Writes the frame if the line has room for it, and refuses with 16 if not.
-pub fn put_frame(contents: Contents, line: &mut [u8]) -> WriteAnswer
+// Writes the frame if the line has room for it.
+pub fn put_frame(contents: Contents, line: &mut [u8]) -> Result<usize, Refusal>
     requires { contents.count ≤ 32 }
     ensures { Writes (fitted (length line.old) (line_of (frame_of contents))) line.old result line.new }
 {
@@ -35,15 +34,13 @@ pub fn put_frame(contents: Contents, line: &mut [u8]) -> WriteAnswer
     let entries = contents.entries;
     let end = 2 * start_of(kind, n);
     if line.len() < end {
-        return WriteAnswer::Refused(16);
+        return Err(Refusal::LineTooShort);
     }
-    put_number(line, 0, header(kind), 1);
-    let mut i = 0;
-    while i < n {
+    put_number(line, 0, kind.into(), 1);
+    for i in 0..n {
         put_entry(line, kind, i, entries[i]);
-        i += 1;
     }
-    WriteAnswer::Done(end)
+    Ok(end)
 }
 
 // Writes entry `i`.

@@ -4,6 +4,7 @@ use mathlib.Core.List.{List, [], ◌∷◌, map}
 use lib.ListN.{length}
 use native.Mathlib.Omega.{arith}
 use borrow.Author.Tests.{eq-eqb}
+use Rattle.std.specs.Prelude.{Ok}
 use Rattle.model.specs.declared.Entry.{Entry}
 use Rattle.model.specs.declared.Totals.{Totals}
 use Rattle.model.specs.Forest.{elsewhere}
@@ -20,8 +21,6 @@ use Rattle.look_output.specs.declared.Scanned as Told
 use Rattle.look_output.specs.Output.{room_in}
 use Rattle.index_promise.specs.Promise.{written}
 use Rattle.index_promise.proofs.Dones.{done_is, ScanDone, scan_done}
-use Rattle.index_promise.specs.declared.TotalsAnswer.TheVariants as Totalled
-use Rattle.index_promise.specs.declared.BatchAnswer.TheVariants as Batch
 use Rattle.index.specs.Register.{AnswersFrom, Turn, rest, next, plain_turn}
 use Rattle.index.specs.LiveSizes.{ClearingFrees, ScanLists}
 use Rattle.index.proofs.Register.{onwards}
@@ -30,12 +29,12 @@ use Rattle.index.proofs.Register.{onwards}
 
 pub clearing_frees : ClearingFrees
 clearing_frees i es l m k size r c before after low a h live lent b p q =
-    let t : Turn = record { tree = i; call = clear (k ∷ []) size; answer = Batch.Done c } in
+    let t : Turn = record { tree = i; call = clear (k ∷ []) size; answer = Ok c } in
     let own : plain_turn i t es ≡ plain_list (tasks_of (clear (k ∷ []) size)) es = rw (eq-eqb i i refl) refl in
     let now : AnswersFrom i (plain_list (tasks_of (clear (k ∷ []) size)) es) m =
     subst (λ (fs : List Entry). AnswersFrom i fs m) own (onwards i es l m (t ∷ []) low (one lent none) a (next b rest)).0 in
-    let was : before ≡ sum_of (map adds es) = done_is (a.totals (Totalled.Done before) p) in
-    let is : after ≡ sum_of (map adds (plain_list (tasks_of (clear (k ∷ []) size)) es)) = done_is (now.totals (Totalled.Done after) q) in
+    let was : before ≡ sum_of (map adds es) = done_is (a.totals (Ok before) p) in
+    let is : after ≡ sum_of (map adds (plain_list (tasks_of (clear (k ∷ []) size)) es)) = done_is (now.totals (Ok after) q) in
     omega (arith, ap (λ (t : Totals). t.size) was, ap (λ (t : Totals). t.size) is, clear_frees k size es r h live)
 
 -- SCANS

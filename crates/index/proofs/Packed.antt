@@ -4,7 +4,10 @@ use Prim.Native.Nat.{ℕ, zero, suc}
 use mathlib.Core.Path.{◌≡◌, refl, sym, ap, ◌∙◌, subst}
 use mathlib.Core.List.{List}
 use native.Mathlib.Omega.{arith}
+use Rattle.std.specs.Prelude.{Result, Ok, Err}
 use Rattle.model.specs.declared.Entry.{Entry}
+use Rattle.model.specs.declared.Refusal.{Refusal}
+use Rattle.model.specs.declared.Refusal.TheVariants.{TooFewUnused}
 use Rattle.model.specs.Tree.{entries_of}
 use Rattle.model.specs.Answer.{Answer, refused, done, unless}
 use Rattle.model_pack.specs.Packing.{Over, Least}
@@ -14,8 +17,6 @@ use Rattle.model.proofs.Answers.{refused_done}
 use Rattle.model_pack.proofs.PackForest.{UnrefusedForest, unrefused_forest, packing_forest, pack_forest_room}
 use Rattle.tree.specs.Pool.{SoundPool, given_in, settings_in, index_of, forest_of, image_of}
 use Rattle.tree.proofs.Pools.{sound_index, sound_forest, image_sound, image_forest, image_index, image_given}
-use Rattle.index_promise.specs.declared.PackAnswer.{PackAnswer}
-use Rattle.index_promise.specs.declared.PackAnswer.TheVariants as Pack
 use Rattle.index_promise.specs.Promise.{holds, fails, Left, ◌leaving◌, leaves, Packs}
 use Rattle.index.specs.Register.{AnswersFrom}
 use Rattle.index.specs.Packed.{PackedInto, PackDone, PackedOnwards, PackFits}
@@ -42,7 +43,7 @@ module _ (l m : List ℕ) where
     passed : UnrefusedForest (given_in l) (given_in m) (forest_of l) (forest_of m)
     bytes : m' ≡ image_of (given_in m) target
 
-  done_by : (m' : List ℕ) → Packs l m Pack.Done m' → Done m'
+  done_by : (m' : List ℕ) → Packs l m (Ok tt) m' → Done m'
   done_by m' (fails u e) = absurd (refused_done 2 tt (sym (ap (λ (w : Left (Unit {0})). w.answer) e)))
   done_by m' (holds s e) = by refusal refl e
     where
@@ -114,7 +115,7 @@ number (done a) = 0
 
 -- refused as 7: the packed trees have more nodes than the target
 module _ (l m m' : List ℕ) where
-  short : Packs l m (Pack.Refused 7) m' → refusal l m ≡ 7
+  short : Packs l m (Err TooFewUnused) m' → refusal l m ≡ 7
   short (fails u e) = absurd (let q : ◌≡◌ {A = ℕ} 7 2 = ap (λ (w : Left (Unit {0})). number w.answer) e in omega (arith, q))
   short (holds s e) = by (refusal l m) e
     where
@@ -125,4 +126,4 @@ module _ (l m m' : List ℕ) where
 pub pack_fits : PackFits
 pack_fits l m m' r s le p e =
     pack_forest_room (given_in l) (given_in m) (forest_of l) (forest_of m) (sound_forest l s) le
-    (short l m m' (subst (λ (a : PackAnswer). Packs l m a m') e p))
+    (short l m m' (subst (λ (a : Result (Unit {0}) Refusal). Packs l m a m') e p))

@@ -6,12 +6,14 @@ use mathlib.Core.List.{List, [], ◌∷◌}
 use Prim.Native.Nat.{ℕ, zero, suc, ◌<◌}
 use lib.Dec.{eqb}
 use Rattle.model.specs.declared.PoolSettings.{PoolSettings}
+use Rattle.std.specs.Prelude.{Result, Ok, Err}
 use Rattle.model.specs.declared.Counts.{Counts}
+use Rattle.model.specs.declared.Refusal.{Refusal}
 use Rattle.model.specs.declared.Entry.{Entry}
 use Rattle.model.specs.Lists.{All, none, one}
 use Rattle.model.specs.Tree.{entries_of}
 use Rattle.model.specs.Plain.{plain_counts, no_counts}
-use Rattle.model.specs.Answer.{refused, done, unless}
+use Rattle.model.specs.Answer.{refused, done, unless, told, number}
 use Rattle.model.specs.Look.{Listing, get_all, scan}
 use Rattle.model.specs.Refuse.{Call, tasks_of, descend, get}
 use Rattle.model.specs.Forest.{Forest, tree_of, replant, new_forest, SoundForest, refusal_at, batch_at, forest_after}
@@ -24,10 +26,7 @@ use Rattle.model.proofs.TwoTrees as T
 use Rattle.tree.specs.Pool.{SoundPool, given_in, index_of, forest_of, image_of}
 use Rattle.tree.proofs.Pools.{tree_of_lem, sound_forest, image_sound, image_given, image_forest}
 use Rattle.look_output.specs.Output.{room_in}
-use Rattle.index_promise.specs.declared.OpenAnswer.TheVariants as Open
-use Rattle.index_promise.specs.declared.BatchAnswer.{BatchAnswer}
-use Rattle.index_promise.specs.declared.BatchAnswer.TheVariants as Batch
-use Rattle.index_promise.specs.Promise.{holds, fails, Left, ◌leaving◌, leaves, Opens, Batches, batched, written, listed, shown}
+use Rattle.index_promise.specs.Promise.{holds, fails, Left, ◌leaving◌, leaves, Opens, Batches, written, listed, shown}
 use Rattle.index_promise.proofs.Unique.{by_sound}
 use Rattle.index_promise.proofs.Dones.{done_is, named_is}
 use Rattle.look_portion.specs.Portion.{upwards, portion}
@@ -76,7 +75,7 @@ module _ (i : ℕ) (c : Call) (l : List ℕ) where
   abbrev pub left_by : ℕ → Left Counts
   left_by n = leaves (λ b. b.counts) (λ b. image_of (given_in l) (replant i b.index (forest_of l))) l (unless n (batch_at (given_in l) i c (forest_of l)))
 
-  pub accepted : {k : Counts} {m : List ℕ} → Batches i c l (Batch.Done k) m → Accepted i c l k m
+  pub accepted : {k : Counts} {m : List ℕ} → Batches i c l (Ok k) m → Accepted i c l k m
   accepted {k} {m} (fails u e) = absurd (refused_done 2 k (sym (ap (λ (w : Left Counts). w.answer) e)))
   accepted {k} {m} (holds s e) = by (refusal_at (given_in l) i c (forest_of l)) refl e
     where
@@ -85,12 +84,12 @@ module _ (i : ℕ) (c : Call) (l : List ℕ) where
       by (suc n) q f = absurd (refused_done (suc n) k (sym (ap (λ (w : Left Counts). w.answer) f)))
 
   -- it was refused: the pool is as it was
-  pub refused_same : {n : ℕ} {m : List ℕ} → Batches i c l (Batch.Refused n) m → m ≡ l
-  refused_same (fails u e) = ap (λ (w : Left Counts). w.bytes) e
-  refused_same {n} {m} (holds s e) = by (refusal_at (given_in l) i c (forest_of l)) e
+  pub refused_same : (why : Refusal) {m : List ℕ} → Batches i c l (Err why) m → m ≡ l
+  refused_same why (fails u e) = ap (λ (w : Left Counts). w.bytes) e
+  refused_same why {m} (holds s e) = by (refusal_at (given_in l) i c (forest_of l)) e
     where
-      by : (k : ℕ) → (refused n leaving m) ≡ left_by k → m ≡ l
-      by zero f = absurd (refused_done n (batch_at (given_in l) i c (forest_of l)).counts (ap (λ (w : Left Counts). w.answer) f))
+      by : (k : ℕ) → (refused (number why) leaving m) ≡ left_by k → m ≡ l
+      by zero f = absurd (refused_done (number why) (batch_at (given_in l) i c (forest_of l)).counts (ap (λ (w : Left Counts). w.answer) f))
       by (suc k) f = ap (λ (w : Left Counts). w.bytes) f
 
 -- the pool after an accepted batch
@@ -122,9 +121,9 @@ record Kept (i : ℕ) (es : List Entry) (l : List ℕ) : Type 0 where
 in_forest : (i : ℕ) (l : List ℕ) → entries_of (tree_of i (forest_of l)) ≡ entries_of (index_of l i)
 in_forest i l = ap entries_of (tree_of_lem l i)
 
-turn : (i j : ℕ) (c : Call) (r : BatchAnswer) (l m : List ℕ) (es : List Entry) → i < 2 → D.Lent c → Kept i es l → Batches j c l r m
-    → Kept i (cond (eqb j i) (plain_after c (batched r) es) es) m × (j ≡ i → CountedBy c (batched r) es)
-turn i j c (Batch.Done k) l m es low lent g b =
+turn : (i j : ℕ) (c : Call) (r : Result Counts Refusal) (l m : List ℕ) (es : List Entry) → i < 2 → D.Lent c → Kept i es l → Batches j c l r m
+    → Kept i (cond (eqb j i) (plain_after c (told r) es) es) m × (j ≡ i → CountedBy c (told r) es)
+turn i j c (Ok k) l m es low lent g b =
     let a : Accepted j c l k m = accepted j c l b in
     let now : After j c l m = after j c l k m lent a in
     let f : Forest = forest_of l in
@@ -140,8 +139,8 @@ turn i j c (Batch.Done k) l m es low lent g b =
       λ e. a.counts ∙ now.batch.counts
           ∙ ap (λ (fs : List Entry). plain_counts (tasks_of c) fs no_counts) (ap (λ (t : ℕ). entries_of (tree_of t f)) e ∙ list),
     )
-turn i j c (Batch.Refused n) l m es low lent g b =
-    let same : m ≡ l = refused_same j c l b in
+turn i j c (Err why) l m es low lent g b =
+    let same : m ≡ l = refused_same j c l why b in
     (subst (λ (fs : List Entry). Kept i fs m) (sym (either (eqb j i))) (subst (Kept i es) (sym same) g), λ e. tt)
   where
     either : (t : Bool) → cond t es es ≡ es
@@ -152,7 +151,7 @@ run : {ts : List Turn} {l k : List ℕ} (i : ℕ) (es : List Entry) → i < 2 �
     → Kept i (plain_run i ts es) k × Counted i ts es
 run i es low lent g rest = (g, tt)
 run i es low (one h hs) g (next {t = t} {l = l} {m = m} b bs) =
-    let one : Kept i (plain_turn i t es) m × (t.tree ≡ i → CountedBy t.call (batched t.answer) es) =
+    let one : Kept i (plain_turn i t es) m × (t.tree ≡ i → CountedBy t.call (told t.answer) es) =
     turn i t.tree t.call t.answer l m es low h g b in
     let on = run i (plain_turn i t es) low hs one.0 bs in
     (on.0, (one.1, on.1))
@@ -163,7 +162,7 @@ onwards i es l now ts low lent a runs =
     (answers_from i (plain_run i ts es) now low k.0.sound k.0.list, k.1)
 
 -- an opened pool has no entries
-opened : (given : PoolSettings) (i : ℕ) (l new : List ℕ) → i < 2 → Opens given l Open.Done new → AnswersFrom i [] new
+opened : (given : PoolSettings) (i : ℕ) (l new : List ℕ) → i < 2 → Opens given l (Ok tt) new → AnswersFrom i [] new
 opened given i l new low (fails u e) = absurd (refused_done 1 tt (sym (ap (λ w. w.answer) e)))
 opened given i l new low (holds (lim, exact) e) =
     let f : Forest = new_forest given.nodes in
@@ -190,7 +189,7 @@ forest_at : {i : ℕ} {c : Call} {l m : List ℕ} {g : PoolSettings} {f : Forest
 forest_at {i = i} {c = c} e h a = rw (sym e, sym h) a.forest
 
 module _ (i j : ℕ) (c d : Call) (l m k m' k' : List ℕ) (x y x' y' : Counts) (lc : D.Lent c) (ld : D.Lent d)
-    (b₁ : Batches i c l (Batch.Done x) m) (b₂ : Batches j d m (Batch.Done y) k) (b₃ : Batches j d l (Batch.Done y') m') (b₄ : Batches i c m' (Batch.Done x') k') where
+    (b₁ : Batches i c l (Ok x) m) (b₂ : Batches j d m (Ok y) k) (b₃ : Batches j d l (Ok y') m') (b₄ : Batches i c m' (Ok x') k') where
   abbrev g : PoolSettings
   g = given_in l
 

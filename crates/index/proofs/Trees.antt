@@ -11,10 +11,11 @@ use lib.Dec.{ltb}
 use borrow.Author.Tests.{le-ltb, lt-ltb, eq-eqb, ne_eqb}
 use Rattle.words.specs.Words.{words}
 use Rattle.model.specs.declared.PoolSettings.{PoolSettings}
+use Rattle.std.specs.Prelude.{Ok, Err}
 use Rattle.model.specs.declared.Counts.{Counts}
 use Rattle.look_output.specs.Output.{room_in}
 use Rattle.look_portion.specs.Portion.{portion}
-use Rattle.model.specs.Answer.{Answer, refused, done}
+use Rattle.model.specs.Answer.{Answer, refused, done, told}
 use Rattle.model.specs.Lists.{times}
 use Rattle.model.specs.Tree.{Index, slots_of, totals_of}
 use Rattle.model.specs.Look.{scan}
@@ -29,8 +30,7 @@ use Rattle.model.proofs.Forest.{replant_other, other_refusals_lem, freed_serves_
 use Rattle.tree.specs.Bridge.{unused_of}
 use Rattle.tree.specs.Pool.{SoundPool, given_in, nodes_in, index_of, forest_of}
 use Rattle.tree.proofs.Pools.{sees_unused, tree_of_lem}
-use Rattle.index_promise.specs.declared.BatchAnswer.TheVariants as Batch
-use Rattle.index_promise.specs.Promise.{holds, Left, ◌leaving◌, leaves, batched, listed, written, swept, shown}
+use Rattle.index_promise.specs.Promise.{holds, Left, ◌leaving◌, leaves, listed, written, swept, shown}
 use Rattle.index_promise.proofs.Unique.{by_sound, by_unsound, one_totals, one_get, one_scan, one_portion, one_frame}
 use Rattle.index.specs.Trees.{ReadsSame, SameBut7, Untouched, Independent, OneSupply, FreedServesEither, NumbersRefused, RefusedAs2, OldRefused, SharedRefused}
 use Rattle.index.proofs.Register.{accepted, refused_same, left_by, After, after}
@@ -168,12 +168,12 @@ module _ (i : ℕ) (l l' : List ℕ) (s : SoundPool l) (s' : SoundPool l') where
       but7_back (refusal_at (given_in l') j d (forest_of l')) n (f d ∙ ap but7 old.0) no7 old.1 in
       by n old.1 (by_sound s' q ∙ ap (left_by j d l') new)
     where
-      by : (n : ℕ) → n ≢ 0 → (batched r' leaving m') ≡ left_by j d l' n → (batched r' ≡ refused n) × (m' ≡ l')
+      by : (n : ℕ) → n ≢ 0 → (told r' leaving m') ≡ left_by j d l' n → (told r' ≡ refused n) × (m' ≡ l')
       by zero some g = absurd (some refl)
       by (suc n) some g = (ap (λ (w : Left Counts). w.answer) g, ap (λ (w : Left Counts). w.bytes) g)
 
 pub independent : Independent
-independent i c l l' (Batch.Refused n) lent s b = subst (Untouched i l) (sym (refused_same i c l b)) same
+independent i c l l' (Err why) lent s b = subst (Untouched i l) (sym (refused_same i c l why b)) same
   where
     same : Untouched i l l
     same =
@@ -184,7 +184,7 @@ independent i c l l' (Batch.Refused n) lent s b = subst (Untouched i l) (sym (re
           refusals = same_but_7 i l l s s (λ d. refl);
           others = same_but_7 i l l s s (λ d. refl);
         }
-independent i c l l' (Batch.Done k) lent s b =
+independent i c l l' (Ok k) lent s b =
     let now : After i c l l' = after i c l k l' lent (accepted i c l b) in
     let x : Index = (batch_at (given_in l) i c (forest_of l)).index in
     let tree : planted_of (index_of l' (other i)) ≡ planted_of (index_of l (other i)) =

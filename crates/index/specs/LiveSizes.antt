@@ -1,5 +1,5 @@
 -- What document 02 says of the calls since a size sum counts live entries alone (A3), whatever answers keep the promises. Assumes nothing.
-use Rattle.std.specs.Prelude.{ℕ, ◌+◌, ◌≤◌, ◌<◌, ◌≡◌, false, List, [], ◌∷◌}
+use Rattle.std.specs.Prelude.{ℕ, ◌+◌, ◌≤◌, ◌<◌, ◌≡◌, false, List, [], ◌∷◌, Ok}
 use Rattle.std.proofs.Math.Option.{some}
 use Rattle.model.specs.declared.Entry.{Entry}
 use Rattle.model.specs.declared.Reference.{Reference}
@@ -14,9 +14,6 @@ use Rattle.model.specs.Demands.{Lent}
 use Rattle.tree.specs.Pool.{index_of}
 use Rattle.look_output.specs.declared.Scanned as Told
 use Rattle.look_output.specs.Output.{room_in}
-use Rattle.index_promise.specs.declared.TotalsAnswer.TheVariants as Totalled
-use Rattle.index_promise.specs.declared.BatchAnswer.TheVariants as Batch
-use Rattle.index_promise.specs.declared.ScanAnswer.TheVariants as Scan
 use Rattle.index_promise.specs.Promise.{Totalling, Batches, Scans, swept, written}
 use Rattle.index.specs.Register.{AnswersFrom}
 
@@ -24,8 +21,8 @@ use Rattle.index.specs.Register.{AnswersFrom}
 abbrev pub ClearingFrees : Type 0
 ClearingFrees =
     (i : ℕ) (es : List Entry) (l m : List ℕ) (k size : ℕ) (r : Reference) (c : Counts) (before after : Totals) → i < 2 → AnswersFrom i es l
-    → held k es ≡ some r → is_mark r.place ≡ false → Lent (clear (k ∷ []) size) → Batches i (clear (k ∷ []) size) l (Batch.Done c) m
-    → Totalling l i (Totalled.Done before) → Totalling m i (Totalled.Done after) → after.size + r.size ≡ before.size
+    → held k es ≡ some r → is_mark r.place ≡ false → Lent (clear (k ∷ []) size) → Batches i (clear (k ∷ []) size) l (Ok c) m
+    → Totalling l i (Ok before) → Totalling m i (Ok after) → after.size + r.size ≡ before.size
 
 -- SCANS: what was told and written is what a scan by the sum of before would have told and written, but for the nodes opened, which may fall and never rise
 pub record AsBefore (before : Scanned) (out : List ℕ) (told : Told.Scanned) (out' : List ℕ) : Type 0 where
@@ -36,5 +33,5 @@ pub record AsBefore (before : Scanned) (out : List ℕ) (told : Told.Scanned) (o
 
 abbrev pub ScanLists : Type 0
 ScanLists =
-    (l : List ℕ) (i : ℕ) (q : Request) (out : List ℕ) (told : Told.Scanned) (out' : List ℕ) → Scans l i q out (Scan.Done told) out'
+    (l : List ℕ) (i : ℕ) (q : Request) (out : List ℕ) (told : Told.Scanned) (out' : List ℕ) → Scans l i q out (Ok told) out'
     → AsBefore (scan_by_all q (room_in out) (index_of l i)) out told out'

@@ -1,45 +1,41 @@
 -- What document 02 says of the calls since a pool has two trees (A4), whatever answers keep the promises. Assumes nothing.
-use Rattle.std.specs.Prelude.{ℕ, ◌≤◌, ◌<◌, ◌≡◌, ◌≢◌, List}
+use Rattle.std.specs.Prelude.{ℕ, ◌≤◌, ◌<◌, ◌≡◌, ◌≢◌, List, Result, Ok}
 use Rattle.words.specs.Words.{words}
+use Rattle.model.specs.declared.Totals.{Totals}
 use Rattle.model.specs.declared.Counts.{Counts}
+use Rattle.model.specs.declared.Refusal.{Refusal}
 use Rattle.model.specs.declared.Bound.{Bound}
 use Rattle.model.specs.declared.Sift.{Sift}
 use Rattle.model.specs.declared.Request.{Request}
 use Rattle.model.specs.Lists.{times}
 use Rattle.model.specs.Tree.{slots_of}
-use Rattle.model.specs.Answer.{refused}
+use Rattle.model.specs.Answer.{refused, told}
 use Rattle.model.specs.Refuse.{Call}
 use Rattle.model.specs.Demands.{Lent}
 use Rattle.model.specs.Forest.{planted_of, other, batch_at}
+use Rattle.look_output.specs.declared.Listed.{Listed}
+use Rattle.look_output.specs.declared.Scanned.{Scanned}
+use Rattle.look_portion.specs.declared.Portion.{Portion}
 use Rattle.slots_pool.specs.Header.{layout_of}
 use Rattle.tree.specs.Pool.{SoundPool, given_in, index_of, forest_of}
-use Rattle.frame_text.specs.declared.WriteAnswer.{WriteAnswer}
-use Rattle.frame_text.specs.Answers.{length_told}
-use Rattle.index_promise.specs.declared.TotalsAnswer.{TotalsAnswer}
-use Rattle.index_promise.specs.declared.BatchAnswer.{BatchAnswer}
-use Rattle.index_promise.specs.declared.BatchAnswer.TheVariants as Batch
-use Rattle.index_promise.specs.declared.GetAnswer.{GetAnswer}
-use Rattle.index_promise.specs.declared.ScanAnswer.{ScanAnswer}
-use Rattle.index_promise.specs.declared.PortionAnswer.{PortionAnswer}
-use Rattle.index_promise.specs.declared.PackAnswer.{PackAnswer}
-use Rattle.index_promise.specs.Promise.{◌leaving◌, Totalling, totalled, Batches, batched, Gets, got, Scans, scanned, Portions, portioned, Frames, Packs, packing}
+use Rattle.index_promise.specs.Promise.{◌leaving◌, Totalling, Batches, Gets, Scans, Portions, Frames, Packs}
 
 -- A BATCH ON ONE TREE changes no entry, total or node of the other
 
 -- every totals, get and scan call, every portion and every frame of tree j answers of l' what it answers of l, and leaves the same bytes
 pub record ReadsSame (j : ℕ) (l l' : List ℕ) : Type 0 where
-  pub totals : (r r' : TotalsAnswer) → Totalling l j r → Totalling l' j r' → r' ≡ r
-  pub gets : (ks out : List ℕ) (r r' : GetAnswer) (o o' : List ℕ) → Gets l j ks out r o → Gets l' j ks out r' o' → (r' ≡ r) × (o' ≡ o)
-  pub scans : (q : Request) (out : List ℕ) (r r' : ScanAnswer) (o o' : List ℕ) → Scans l j q out r o → Scans l' j q out r' o' → (r' ≡ r) × (o' ≡ o)
-  pub portions : (start end : Bound) (sift : Sift) (out : List ℕ) (r r' : PortionAnswer) (o o' : List ℕ) → Portions l j start end sift out r o
+  pub totals : (r r' : Result Totals Refusal) → Totalling l j r → Totalling l' j r' → r' ≡ r
+  pub gets : (ks out : List ℕ) (r r' : Result Listed Refusal) (o o' : List ℕ) → Gets l j ks out r o → Gets l' j ks out r' o' → (r' ≡ r) × (o' ≡ o)
+  pub scans : (q : Request) (out : List ℕ) (r r' : Result Scanned Refusal) (o o' : List ℕ) → Scans l j q out r o → Scans l' j q out r' o' → (r' ≡ r) × (o' ≡ o)
+  pub portions : (start end : Bound) (sift : Sift) (out : List ℕ) (r r' : Result Portion Refusal) (o o' : List ℕ) → Portions l j start end sift out r o
       → Portions l' j start end sift out r' o' → (r' ≡ r) × (o' ≡ o)
-  pub frames : (n : ℕ) (line : List ℕ) (r r' : WriteAnswer) (o o' : List ℕ) → Frames l j n line r o → Frames l' j n line r' o' → (r' ≡ r) × (o' ≡ o)
+  pub frames : (n : ℕ) (line : List ℕ) (r r' : Result ℕ Refusal) (o o' : List ℕ) → Frames l j n line r o → Frames l' j n line r' o' → (r' ≡ r) × (o' ≡ o)
 
 -- what it may change for the other is refusal 7 alone: a batch on tree j that is refused on l for another reason is refused so on l'
 abbrev pub SameBut7 : ℕ → List ℕ → List ℕ → Type 0
 SameBut7 j l l' =
-    (d : Call) (r r' : BatchAnswer) (m m' : List ℕ) → Batches j d l r m → Batches j d l' r' m' → (n : ℕ) → n ≢ 7 → batched r ≡ refused n
-    → (batched r' ≡ refused n) × (m' ≡ l')
+    (d : Call) (r r' : Result Counts Refusal) (m m' : List ℕ) → Batches j d l r m → Batches j d l' r' m' → (n : ℕ) → n ≢ 7 → told r ≡ refused n
+    → (told r' ≡ refused n) × (m' ≡ l')
 
 pub record Untouched (i : ℕ) (l l' : List ℕ) : Type 0 where
   -- the settings stay
@@ -51,7 +47,7 @@ pub record Untouched (i : ℕ) (l l' : List ℕ) : Type 0 where
   pub others : SameBut7 (other i) l' l
 
 abbrev pub Independent : Type 0
-Independent = (i : ℕ) (c : Call) (l l' : List ℕ) (r : BatchAnswer) → Lent c → SoundPool l → Batches i c l r l' → Untouched i l l'
+Independent = (i : ℕ) (c : Call) (l l' : List ℕ) (r : Result Counts Refusal) → Lent c → SoundPool l → Batches i c l r l' → Untouched i l l'
 
 -- A FREED SLOT SERVES EITHER: both trees have the same unused slots ..
 abbrev pub OneSupply : Type 0
@@ -60,18 +56,18 @@ OneSupply = (l : List ℕ) (i j : ℕ) → (index_of l i).unused ≡ (index_of l
 -- .. and after a batch on one of them each has those that the batch left unused, what it freed among them
 abbrev pub FreedServesEither : Type 0
 FreedServesEither =
-    (i j : ℕ) (c : Call) (l l' : List ℕ) (k : Counts) → Lent c → Batches i c l (Batch.Done k) l'
+    (i j : ℕ) (c : Call) (l l' : List ℕ) (k : Counts) → Lent c → Batches i c l (Ok k) l'
     → (index_of l' j).unused ≡ (batch_at (given_in l) i c (forest_of l)).index.unused
 
 -- every call that names tree i of the pool l is refused as k, and leaves the lent bytes as they were
 pub record RefusedAs (k i : ℕ) (l : List ℕ) : Type 0 where
-  pub totals : (r : TotalsAnswer) → Totalling l i r → totalled r ≡ refused k
-  pub batches : (c : Call) (r : BatchAnswer) (l' : List ℕ) → Batches i c l r l' → (batched r leaving l') ≡ (refused k leaving l)
-  pub gets : (ks out : List ℕ) (r : GetAnswer) (out' : List ℕ) → Gets l i ks out r out' → (got r leaving out') ≡ (refused k leaving out)
-  pub scans : (q : Request) (out : List ℕ) (r : ScanAnswer) (out' : List ℕ) → Scans l i q out r out' → (scanned r leaving out') ≡ (refused k leaving out)
-  pub portions : (start end : Bound) (sift : Sift) (out : List ℕ) (r : PortionAnswer) (out' : List ℕ) → Portions l i start end sift out r out'
-      → (portioned r leaving out') ≡ (refused k leaving out)
-  pub frames : (n : ℕ) (line : List ℕ) (r : WriteAnswer) (line' : List ℕ) → Frames l i n line r line' → (length_told r leaving line') ≡ (refused k leaving line)
+  pub totals : (r : Result Totals Refusal) → Totalling l i r → told r ≡ refused k
+  pub batches : (c : Call) (r : Result Counts Refusal) (l' : List ℕ) → Batches i c l r l' → (told r leaving l') ≡ (refused k leaving l)
+  pub gets : (ks out : List ℕ) (r : Result Listed Refusal) (out' : List ℕ) → Gets l i ks out r out' → (told r leaving out') ≡ (refused k leaving out)
+  pub scans : (q : Request) (out : List ℕ) (r : Result Scanned Refusal) (out' : List ℕ) → Scans l i q out r out' → (told r leaving out') ≡ (refused k leaving out)
+  pub portions : (start end : Bound) (sift : Sift) (out : List ℕ) (r : Result Portion Refusal) (out' : List ℕ) → Portions l i start end sift out r out'
+      → (told r leaving out') ≡ (refused k leaving out)
+  pub frames : (n : ℕ) (line : List ℕ) (r : Result ℕ Refusal) (line' : List ℕ) → Frames l i n line r line' → (told r leaving line') ≡ (refused k leaving line)
 
 -- ANOTHER NUMBER THAN 0 AND 1 is refused as 19, straight after 2, whatever else is wrong with the call
 abbrev pub NumbersRefused : Type 0
@@ -82,8 +78,8 @@ NumbersRefused = (i : ℕ) (l : List ℕ) → SoundPool l → 2 ≤ i → Refuse
 -- every call that is given the pool l, whatever tree it names, is refused as 2, and leaves the lent bytes as they were
 pub record RefusedAs2 (l : List ℕ) : Type 0 where
   pub trees : (i : ℕ) → RefusedAs 2 i l
-  pub source : (m : List ℕ) (r : PackAnswer) (m' : List ℕ) → Packs l m r m' → (packing r leaving m') ≡ (refused 2 leaving m)
-  pub target : (k : List ℕ) (r : PackAnswer) (l' : List ℕ) → Packs k l r l' → (packing r leaving l') ≡ (refused 2 leaving l)
+  pub source : (m : List ℕ) (r : Result (Unit {0}) Refusal) (m' : List ℕ) → Packs l m r m' → (told r leaving m') ≡ (refused 2 leaving m)
+  pub target : (k : List ℕ) (r : Result (Unit {0}) Refusal) (l' : List ℕ) → Packs k l r l' → (told r leaving l') ≡ (refused 2 leaving l)
 
 abbrev pub OldRefused : Type 0
 OldRefused = (l : List ℕ) → layout_of (words l) ≡ 1 → RefusedAs2 l

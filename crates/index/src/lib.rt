@@ -4,7 +4,7 @@
 // index_pack.
 #![tactic(auto)]
 
-ghost use Rattle.model.specs.Refuse.{call};
+ghost use Rattle.model.specs.Refuse.{called};
 ghost use Rattle.index_promise.specs.Promise.{Opens, Batches};
 
 pub use frame_read::read as read_frame;
@@ -14,36 +14,25 @@ pub use index_look::{frame, get, scan, totals};
 use index_named::find;
 pub use index_pack::pack;
 pub use index_portion::portion;
-use index_promise::{BatchAnswer, OpenAnswer};
-use model::{Operation, PoolSettings};
+use model::{Batch, Counts, PoolSettings, Refusal};
 
 // Makes the pool two trees, each one empty leaf, whatever it held. Refused as 1 where a setting or the pool's length is wrong.
-pub fn open(pool: &mut [u8], given: PoolSettings) -> OpenAnswer
+pub fn open(pool: &mut [u8], given: PoolSettings) -> Result<(), Refusal>
     ensures { Opens given pool.old result pool.new }
 {
     if tree::open(pool, given) {
-        OpenAnswer::Done
+        Ok(())
     } else {
-        OpenAnswer::Refused(1)
+        Err(Refusal::WrongSettings)
     }
 }
 
 // One batch on a tree: the ascending keys are taken first to last. Only a SetEach reads places and sizes, one of each a key. Refused as 2, 19 or 3
 // to 7.
-pub fn batch(
-    pool: &mut [u8],
-    tree: usize,
-    keys: &[u64],
-    places: &[u64],
-    sizes: &[u32],
-    op: Operation,
-) -> BatchAnswer
-    ensures { Batches tree (call op places.now sizes.now keys.now) pool.old result pool.new }
+pub fn batch(pool: &mut [u8], tree: usize, batch: &Batch) -> Result<Counts, Refusal>
+    ensures { Batches tree (called batch.now) pool.old result pool.new }
 {
-    let at = find(pool, tree);
-    if at.refusal != 0 {
-        return BatchAnswer::Refused(at.refusal);
-    }
+    let at = find(pool, tree)?;
     let settings = at.settings;
     let spare = at.spare;
     let known = Known {
@@ -51,6 +40,6 @@ pub fn batch(
         height: at.height,
         spare,
     };
-    let stored = store(pool, known, keys, places, sizes, op);
+    let stored = store(pool, known, batch);
     stored.answer
 }

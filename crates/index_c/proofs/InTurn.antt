@@ -16,9 +16,10 @@ use Rattle.look_output.specs.Output.{room_in}
 use Rattle.look_portion.specs.declared.Portion.{Portion}
 use Rattle.look_portion.specs.Portion.{upwards}
 use Rattle.look_portion.proofs.Starts.{none_shown}
-use Rattle.index_promise.specs.declared.PortionAnswer.TheVariants as Portioned
+use Rattle.std.specs.Prelude.{Ok, Err}
+use Rattle.model.proofs.Refusals.{number_some}
 use Rattle.index_promise.specs.Promise.{Portions}
-use Rattle.index_promise.proofs.Dones.{PortionDone, portion_done, portion_number}
+use Rattle.index_promise.proofs.Dones.{PortionDone, portion_done}
 use Rattle.index_portion.specs.Listings.{Moment, InPortions}
 use Rattle.index_portion.specs.Listings as P
 use Rattle.index_c_given.specs.Given.{start_for}
@@ -45,7 +46,7 @@ bound_read (Excluded k) = refl
 
 module _ (l : List ℕ) (i : ℕ) (end : Bound) (sift : Sift) (out : List ℕ) where
   -- a portion keeps its start where nothing was shown
-  stays : (start : Bound) {p : Portion} {out' : List ℕ} → Portions l i start end sift out (Portioned.Done p) out' → p.scanned.written ≡ 0 → p.next ≡ start
+  stays : (start : Bound) {p : Portion} {out' : List ℕ} → Portions l i start end sift out (Ok p) out' → p.scanned.written ≡ 0 → p.next ≡ start
   stays start {p} {out'} portions none =
       let d : PortionDone l i start end sift out p out' = portion_done l i start end sift out portions in
       ap (λ (x : Portion). x.next) d.tells
@@ -53,7 +54,7 @@ module _ (l : List ℕ) (i : ℕ) (end : Bound) (sift : Sift) (out : List ℕ) w
       (sym (ap (λ (x : Portion). x.scanned.written) d.tells) ∙ none)
 
   -- so the numbers that it leaves are read as its next start
-  next_read : (from : List ℕ) {p : Portion} {out' : List ℕ} → Portions l i (start_for from) end sift out (Portioned.Done p) out'
+  next_read : (from : List ℕ) {p : Portion} {out' : List ℕ} → Portions l i (start_for from) end sift out (Ok p) out'
       → start_for (start_after p from) ≡ p.next
   next_read from {p} portions = by (eqb p.scanned.written 0) refl
     where
@@ -64,20 +65,19 @@ module _ (l : List ℕ) (i : ℕ) (end : Bound) (sift : Sift) (out : List ℕ) w
   -- one that answers 0 was done, tells its numbers, and leads on to the next
   pub record Led (from out' : List ℕ) (b : PortionBuffers) : Type 0 where
     pub portion : Portion
-    pub done : Portions l i (start_for from) end sift out (Portioned.Done portion) out'
+    pub done : Portions l i (start_for from) end sift out (Ok portion) out'
     pub told : b.told ≡ portion_numbers portion
     pub next : start_for b.from ≡ portion.next
 
   led : (from before out' : List ℕ) (b : PortionBuffers) → PortionCall l i end sift out (record { from = from; told = before }) 0 out' b → Led from out' b
-  led from before out' b (Portioned.Done p, (keeps, reports)) =
+  led from before out' b (Ok p, (keeps, reports)) =
       record {
         portion = p;
         done = keeps;
         told = ap (λ (c : PortionBuffers). c.told) reports.small;
         next = ap (λ (c : PortionBuffers). start_for c.from) reports.small ∙ next_read from keeps;
       }
-  led from before out' b (Portioned.Refused n, (keeps, reports)) =
-      absurd (omega (arith, reports.number, portion_number l i (start_for from) end sift out keeps))
+  led from before out' b (Err why, (keeps, reports)) = absurd (number_some why (sym reports.number))
 
 -- IN TURN
 

@@ -1,21 +1,21 @@
 -- What the length of a pool, and a frame that was read, report. Assumes nothing.
 use Prim.Native.Nat.{ℕ}
-use mathlib.Core.Path.{◌≡◌, refl, sym, ap, ◌∙◌}
+use mathlib.Core.Path.{◌≡◌, refl, ap, ◌∙◌}
 use mathlib.Core.Bool.{Bool, true, false, not}
 use borrow.Author.Tests.{not-true, not-false}
 use Rattle.model.specs.declared.PoolSettings.{PoolSettings}
-use Rattle.model.specs.Answer.{Answer, Tells}
+use Rattle.std.specs.Prelude.{Result, Ok, Err}
+use Rattle.model.specs.declared.Refusal.{Refusal}
+use Rattle.model.specs.Answer.{Answer, Tells, told}
 use Rattle.model.specs.Frame.{Frame}
 use Rattle.model.specs.Sound.{PoolLimits}
 use Rattle.model.proofs.Answers.{told_no}
 use Rattle.tree.specs.Pool.{pool_len}
-use Rattle.frame_text.specs.declared.ReadAnswer.{ReadAnswer}
-use Rattle.frame_text.specs.declared.ReadAnswer.TheVariants as Read
-use Rattle.frame_text.specs.declared.Reading.{Reading}
-use Rattle.frame_text.specs.Answers.{frame_told, contents_in, Reads}
+use Rattle.frame_text.specs.declared.Contents.{Contents}
+use Rattle.frame_text.specs.Answers.{Reads}
 use Rattle.index_promise.specs.Promise.{Where, holds, fails}
 use Rattle.index_c_told.specs.Told.{code_of, filled, Reports}
-use Rattle.index_c_fields.specs.Fields.{Fields, fields_of, frame_fields, contents_told}
+use Rattle.index_c_fields.specs.Fields.{Fields, fields_of, frame_fields}
 
 -- THE LENGTH OF A POOL
 
@@ -31,15 +31,15 @@ module _ (given : PoolSettings) (b : Bool) (t : Tells b (PoolLimits given)) wher
 
 -- READING A FRAME
 
-pub read_reported : (a : Answer Frame) (r : Reading) (b b' : Fields) (n : ℕ) → Reads a r → Reports fields_of (contents_told r.answer r.contents) b n b'
+pub read_reported : (a : Answer Frame) (r : Result Contents Refusal) (b b' : Fields) (n : ℕ) → Reads a r → Reports fields_of (told r) b n b'
     → Reports frame_fields a b n b'
-read_reported a r b b' n s t = by r.answer s.answer t
-  where
-    by : (w : ReadAnswer) → frame_told w r.contents ≡ a → Reports fields_of (contents_told w r.contents) b n b' → Reports frame_fields a b n b'
-    by Read.Done e t =
-        record {
-          number = t.number ∙ ap (code_of {A = Frame}) e;
-          small = t.small ∙ ap fields_of s.zeros ∙ ap (λ (x : Answer Frame). fields_of (contents_in x)) (sym e)
-              ∙ ap (λ (x : Answer Frame). filled frame_fields x b) e;
-        }
-    by (Read.Refused m) e t = record { number = t.number ∙ ap (code_of {A = Frame}) e; small = t.small ∙ ap (λ (x : Answer Frame). filled frame_fields x b) e }
+read_reported a (Ok c) b b' n s t =
+    record {
+      number = t.number ∙ ap (code_of {A = Frame}) s.answer;
+      small = t.small ∙ ap fields_of (s.zeros c refl) ∙ ap (λ (x : Answer Frame). filled frame_fields x b) s.answer;
+    }
+read_reported a (Err m) b b' n s t =
+    record {
+      number = t.number ∙ ap (code_of {A = Frame}) s.answer;
+      small = t.small ∙ ap (λ (x : Answer Frame). filled frame_fields x b) s.answer;
+    }

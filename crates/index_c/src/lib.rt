@@ -17,10 +17,8 @@ ghost use Rattle.index_c.specs.Calls.{OpenCall, PackCall, TotalsCall, BatchCall,
 
 use index_c_fields::tell_reading;
 use index_c_given::{action, bound, direction, expectation, interior, leaf, settings, start_of};
-use index_c_told::{
-    tell_counts, tell_get, tell_length, tell_open, tell_pack, tell_portion, tell_scan, tell_totals,
-};
-use model::{Operation, Reference, Sift};
+use index_c_told::{code, tell, tell_length, tell_portion};
+use model::{Batch, Operation, Reference, Sift};
 
 // The exact length of a pool, in bytes; 0 where a setting is wrong. A pool has two trees, each with its order and minimum.
 #[unsafe(no_mangle)]
@@ -55,7 +53,7 @@ pub extern "C" fn alarm_open(
 {
     let given = settings(nodes, order0, minimum0, order1, minimum1);
     let answer = index::open(pool, given);
-    tell_open(answer)
+    code(answer)
 }
 
 // Copies the entries of both trees of a pool into a second, new one, so that every node is full but the last of its level.
@@ -64,7 +62,7 @@ pub extern "C" fn alarm_pack(source: &[u8], target: &mut [u8]) -> u32
     ensures { PackCall source.now target.old result target.new }
 {
     let answer = index::pack(source, target);
-    tell_pack(answer)
+    code(answer)
 }
 
 // Live entries, dead ones, and the sum of the sizes of the live ones.
@@ -74,7 +72,7 @@ pub extern "C" fn alarm_totals(pool: &[u8], tree: u64, totals: &mut [u64; 3]) ->
 {
     let named = tree as usize;
     let answer = index::totals(pool, named);
-    tell_totals(answer, totals)
+    tell(answer, totals)
 }
 
 // Sets every key to one reference. `counts`, of each batch: keys that added, replaced, removed, did nothing.
@@ -113,8 +111,14 @@ pub extern "C" fn alarm_set_each(
         pool.new counts.new }
 {
     let named = tree as usize;
-    let answer = index::batch(pool, named, keys, places, sizes, Operation::SetEach);
-    tell_counts(answer, counts)
+    let batch = Batch {
+        operation: Operation::SetEach,
+        keys,
+        places,
+        sizes,
+    };
+    let answer = index::batch(pool, named, &batch);
+    tell(answer, counts)
 }
 
 // Removes every key.
@@ -161,8 +165,14 @@ fn batch(pool: &mut [u8], tree: u64, keys: &[u64], op: Operation, counts: &mut [
     let places = [0u64; 0];
     let sizes = [0u32; 0];
     let named = tree as usize;
-    let answer = index::batch(pool, named, keys, &places, &sizes, op);
-    tell_counts(answer, counts)
+    let batch = Batch {
+        operation: op,
+        keys,
+        places: &places,
+        sizes: &sizes,
+    };
+    let answer = index::batch(pool, named, &batch);
+    tell(answer, counts)
 }
 
 // Lists one entry for each key that is present. Told: entries written, and 1 where more were due.
@@ -178,7 +188,7 @@ pub extern "C" fn alarm_get(
 {
     let named = tree as usize;
     let answer = index::get(pool, named, keys, out);
-    tell_get(answer, told)
+    tell(answer, told)
 }
 
 // Lists the live entries in a range whose size is `least` or more. Told: entries written, 1 where more were due, and nodes opened.
@@ -206,7 +216,7 @@ pub extern "C" fn alarm_scan(
     let way = direction(down);
     let named = tree as usize;
     let answer = index::scan(pool, named, low, high, way, Sift::SizeAtLeast(least), out);
-    tell_scan(answer, told)
+    tell(answer, told)
 }
 
 // Lists a portion of the live entries of size `least` or more, up to an end. `from`: its start as three numbers, bounded, included and key;

@@ -1,13 +1,10 @@
 -- The buffers of a frame: kind and count, then a list for each field of its places. Assumes nothing.
 use Rattle.std.specs.Prelude.{ℕ, List, [], ◌∷◌, get_or}
-use Rattle.model.specs.Answer.{Answer, refused, done}
 use Rattle.model.specs.Frame.{Frame}
 use Rattle.frame_text.specs.declared.Kind.{Kind}
 use Rattle.frame_text.specs.declared.Kind.TheVariants.{Leaf, Interior}
 use Rattle.frame_text.specs.declared.FrameEntry.{FrameEntry}
 use Rattle.frame_text.specs.declared.Contents.{Contents}
-use Rattle.frame_text.specs.declared.ReadAnswer.{ReadAnswer}
-use Rattle.frame_text.specs.declared.ReadAnswer.TheVariants as Read
 use Rattle.frame_text.specs.Contents.{no_entry, contents_of}
 use Rattle.frame_text.specs.Entries.{header_of}
 use Rattle.index_c_given.specs.Places.{places}
@@ -29,11 +26,6 @@ wide_of Interior e = e.totals.size
 abbrev pub narrow_of : Kind → FrameEntry → ℕ
 narrow_of Leaf e = e.reference.size
 narrow_of Interior e = e.child
-
--- what was read, by value
-abbrev pub contents_told : ReadAnswer → Contents → Answer Contents
-contents_told Read.Done c = done c
-contents_told (Read.Refused n) c = refused n
 
 -- a field of each place
 abbrev pub field : (FrameEntry → ℕ) → Contents → List ℕ

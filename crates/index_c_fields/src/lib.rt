@@ -3,12 +3,14 @@
 
 ghost use Rattle.std.specs.Prelude.{◌≡◌};
 ghost use Rattle.index_c_told.specs.Told.{Reports};
-ghost use Rattle.index_c_fields.specs.Fields.{contents_told, fields_of, wide_of, narrow_of};
+ghost use Rattle.model.specs.Answer.{told};
+ghost use Rattle.index_c_fields.specs.Fields.{fields_of, wide_of, narrow_of};
 
-use frame_text::{Contents, FrameEntry, Kind, ReadAnswer, Reading, header};
+use frame_text::{Contents, FrameEntry, Kind};
+use model::Refusal;
 
 pub fn tell_reading(
-    reading: Reading,
+    reading: Result<Contents, Refusal>,
     head: &mut [u64; 2],
     keys: &mut [u64; 32],
     wide: &mut [u64; 32],
@@ -16,7 +18,7 @@ pub fn tell_reading(
     live: &mut [u32; 32],
     dead: &mut [u32; 32],
 ) -> u32
-    ensures { Reports fields_of (contents_told reading.answer reading.contents)
+    ensures { Reports fields_of (told reading)
         (record {
           head = head.old;
           keys = keys.old;
@@ -33,13 +35,12 @@ pub fn tell_reading(
           dead = dead.new;
         }) }
 {
-    let answer = reading.answer;
-    match answer {
-        ReadAnswer::Done => {
-            put_contents(reading.contents, head, keys, wide, narrow, live, dead);
+    match reading {
+        Ok(contents) => {
+            put_contents(contents, head, keys, wide, narrow, live, dead);
             0
         }
-        ReadAnswer::Refused(n) => n,
+        Err(why) => why.into(),
     }
 }
 
@@ -69,17 +70,15 @@ fn put_contents(
     let mut low = [0u32; 32];
     let mut alive = [0u32; 32];
     let mut gone = [0u32; 32];
-    let mut i = 0;
-    while i < 32 {
+    for i in 0..32 {
         let e = entries[i];
         key[i] = e.key;
         high[i] = wide_of(kind, e);
         low[i] = narrow_of(kind, e);
         alive[i] = live_of(e);
         gone[i] = dead_of(e);
-        i += 1;
     }
-    *head = [header(kind), contents.count as u64];
+    *head = [kind.into(), contents.count as u64];
     *keys = key;
     *wide = high;
     *narrow = low;

@@ -76,10 +76,8 @@ pub fn leaf(count: u64, keys: &[u64; 32], places: &[u64; 32], sizes: &[u32; 32])
     ensures { result ≡ leaf_contents count keys.now places.now sizes.now }
 {
     let mut entries = [leaf_entry(0, 0, 0); 32];
-    let mut i = 0;
-    while i < 32 {
+    for i in 0..32 {
         entries[i] = leaf_entry(keys[i], places[i], sizes[i]);
-        i += 1;
     }
     Contents {
         kind: Kind::Leaf,
@@ -100,10 +98,8 @@ pub fn interior(
         sums.now }
 {
     let mut entries = [branch(0, 0, 0, 0, 0); 32];
-    let mut i = 0;
-    while i < 32 {
+    for i in 0..32 {
         entries[i] = branch(keys[i], children[i], live[i], dead[i], sums[i]);
-        i += 1;
     }
     Contents {
         kind: Kind::Interior,

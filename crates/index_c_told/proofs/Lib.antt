@@ -1,2 +1,2 @@
--- `Reported`: what reports an answer.
+-- `Reported`: a report is one.
 pub mod Reported

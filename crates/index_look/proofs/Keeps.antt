@@ -2,13 +2,16 @@
 -- Assumes nothing.
 use Prim.Native.Nat.{ℕ}
 use mathlib.Core.Path.{◌≡◌, refl, sym, ap, ◌∙◌, subst}
-use mathlib.Core.Logic.{◌≢◌}
 use mathlib.Core.Bool.{Bool, true, false, cond}
 use mathlib.Core.List.{List, ◌++◌}
 use lib.ListN.{length, drop}
 use Rattle.model.specs.declared.Totals.{Totals}
 use Rattle.model.specs.Tree.{totals_of}
-use Rattle.model.specs.Answer.{Answer, refused, done, unless}
+use Rattle.std.specs.Prelude.{Result, Ok, Err}
+use Rattle.model.specs.declared.Refusal.{Refusal}
+use Rattle.model.specs.declared.Refusal.TheVariants.{KeysDescend}
+use Rattle.model.specs.Answer.{Answer, refused, done, unless, number}
+use Rattle.model.proofs.Refusals.{number_some}
 use Rattle.model.specs.declared.Request.{Request}
 use Rattle.model.specs.Look.{Listing, Scanned, get_all, scan}
 use Rattle.model.specs.Refuse.{descend, get}
@@ -19,13 +22,8 @@ use Rattle.look_output.specs.declared.Listed.{Listed}
 use Rattle.look_output.specs.declared.Scanned as Told
 use Rattle.look_output.specs.Output.{room_in}
 use Rattle.look.specs.Promises.{Written}
-use Rattle.frame_text.specs.declared.WriteAnswer.{WriteAnswer}
-use Rattle.frame_text.specs.declared.WriteAnswer.TheVariants as Write
 use Rattle.frame_text.specs.Answers.{length_in, line_after}
 use Rattle.frame_text.specs.Answers as Line
-use Rattle.index_promise.specs.declared.TotalsAnswer.TheVariants as Totalled
-use Rattle.index_promise.specs.declared.GetAnswer.TheVariants as Get
-use Rattle.index_promise.specs.declared.ScanAnswer.TheVariants as Scan
 use Rattle.index_promise.specs.Promise.{holds, Left, ◌leaving◌, leaves, Totalling, Gets, Scans, Frames, listed, swept, written}
 use Rattle.index_named.specs.declared.Named.{Named}
 use Rattle.index_named.specs.Promises.{TreeFound, Refused}
@@ -33,52 +31,53 @@ use Rattle.index_named.proofs.Trees.{answers, not_there, not_left, late_named}
 
 -- NO SUCH TREE, or no sound pool
 
-module _ {l : List ℕ} (i : ℕ) {n : ℕ} (r : Refused l i n) (some : n ≢ 0) where
-  pub totals_refused : Totalling l i (Totalled.Refused n)
-  totals_refused = not_there i (named i (done (totals_of (index_of l i)))) (late_named i (done (totals_of (index_of l i)))) r some
+module _ {l : List ℕ} (i : ℕ) (why : Refusal) (r : Refused l i (number why)) where
+  pub totals_refused : Totalling l i (Err why)
+  totals_refused = not_there i (named i (done (totals_of (index_of l i)))) (late_named i (done (totals_of (index_of l i)))) r (number_some why)
 
-  pub get_refused : (ks out : List ℕ) → Gets l i ks out (Get.Refused n) out
+  pub get_refused : (ks out : List ℕ) → Gets l i ks out (Err why) out
   get_refused ks out =
       let a : Answer Listing = get ks (room_in out) (index_of l i) in
-      not_left i (named i a) (late_named i a) listed (written out) out r some
+      not_left i (named i a) (late_named i a) listed (written out) out r (number_some why)
 
-  pub scan_refused : (q : Request) (out : List ℕ) → Scans l i q out (Scan.Refused n) out
+  pub scan_refused : (q : Request) (out : List ℕ) → Scans l i q out (Err why) out
   scan_refused q out =
       let a : Answer Scanned = done (scan q (room_in out) (index_of l i)) in
-      not_left i (named i a) (late_named i a) swept (λ s. written out s.listed) out r some
+      not_left i (named i a) (late_named i a) swept (λ s. written out s.listed) out r (number_some why)
 
-  pub frame_refused : (j : ℕ) (line : List ℕ) → Frames l i j line (Write.Refused n) line
+  pub frame_refused : (j : ℕ) (line : List ℕ) → Frames l i j line (Err why) line
   frame_refused j line =
       let a : Answer (List ℕ) = write_node j (length line) (index_of l i) in
-      not_left i (named i a) (late_named i a) length (λ s. s ++ drop (length s) line) line r some
+      not_left i (named i a) (late_named i a) length (λ s. s ++ drop (length s) line) line r (number_some why)
 
 -- what was written, and told of it
-told : (g : Listing) (r : Listed) (out out' : List ℕ) → Written g out r.written r.more out'
+get_left : (g : Listing) (r : Listed) (out out' : List ℕ) → Written g out r.written r.more out'
     → (done r leaving out') ≡ (done (listed g) leaving written out g)
-told g r out out' w =
+get_left g r out out' w =
     let same : r ≡ listed g =
     ap (λ (n : ℕ). record { written = n; more = r.more }) w.count ∙ ap (λ (b : Bool). record { written = length g.written; more = b }) w.due in
     ap (λ (x : Listed). done x leaving out') same ∙ ap (λ (o : List ℕ). done (listed g) leaving o) w.bytes
 
-swept_told : (s : Scanned) (r : Told.Scanned) (out out' : List ℕ) → Written s.listed out r.written r.more out' → r.opened ≡ s.opened
+scan_left : (s : Scanned) (r : Told.Scanned) (out out' : List ℕ) → Written s.listed out r.written r.more out' → r.opened ≡ s.opened
     → (done r leaving out') ≡ (done (swept s) leaving written out s.listed)
-swept_told s r out out' w o =
+scan_left s r out out' w o =
     let same : r ≡ swept s =
     ap (λ (n : ℕ). record { written = n; more = r.more; opened = r.opened }) w.count
     ∙ ap (λ (b : Bool). record { written = length s.listed.written; more = b; opened = r.opened }) w.due
     ∙ ap (λ (n : ℕ). record { written = length s.listed.written; more = s.listed.more; opened = n }) o in
     ap (λ (x : Told.Scanned). done x leaving out') same ∙ ap (λ (b : List ℕ). done (swept s) leaving b) w.bytes
 
--- OF THE TREE THAT WAS FOUND
+-- OF THE TREE THAT WAS FOUND. What the call answers is named beside what was told, so that an answer that is another is refused at once.
 
 module _ {l : List ℕ} {i : ℕ} {at : Named} (t : TreeFound l i at) where
   -- its number is the slot of its root
   abbrev root : ℕ
   root = at.settings.root
 
-  pub totals_told : (r : Totals) → r ≡ totals_of (index_of l root) → Totalling l i (Totalled.Done r)
-  totals_told r e =
-      holds t.pool.sound (ap done (e ∙ ap (λ (j : ℕ). totals_of (index_of l j)) t.number) ∙ sym (answers t (done (totals_of (index_of l i)))))
+  pub totals_told : (r : Result Totals Refusal) (x : Totals) → r ≡ Ok x → x ≡ totals_of (index_of l root) → Totalling l i r
+  totals_told r x is e =
+      rw is
+      (holds t.pool.sound (ap done (e ∙ ap (λ (j : ℕ). totals_of (index_of l j)) t.number) ∙ sym (answers t (done (totals_of (index_of l i))))))
 
   module _ (ks out : List ℕ) where
     abbrev due : Bool → Left Listed
@@ -87,27 +86,29 @@ module _ {l : List ℕ} {i : ℕ} {at : Named} (t : TreeFound l i at) where
     promised : {b : Bool} → descend ks ≡ b → due b ≡ leaves listed (written out) out (named i (get ks (room_in out) (index_of l i)))
     promised d = ap due (sym d) ∙ ap (leaves listed (written out) out) (sym (answers t (get ks (room_in out) (index_of l i))))
 
-    pub get_descends : descend ks ≡ true → Gets l i ks out (Get.Refused 5) out
+    pub get_descends : descend ks ≡ true → Gets l i ks out (Err KeysDescend) out
     get_descends d = holds t.pool.sound (promised d)
 
-    pub get_told : (g : Listed) (out' : List ℕ) → descend ks ≡ false → Written (get_all ks (room_in out) (index_of l root)) out g.written g.more out'
-        → Gets l i ks out (Get.Done g) out'
-    get_told g out' d w =
-        holds t.pool.sound
-        (told (get_all ks (room_in out) (index_of l i)) g out out'
-        (subst (λ (j : ℕ). Written (get_all ks (room_in out) (index_of l j)) out g.written g.more out') t.number w) ∙ promised d)
+    pub get_told : (r : Result Listed Refusal) (g : Listed) (out' : List ℕ) → r ≡ Ok g → descend ks ≡ false
+        → Written (get_all ks (room_in out) (index_of l root)) out g.written g.more out' → Gets l i ks out r out'
+    get_told r g out' is d w =
+        rw is
+        (holds t.pool.sound
+        (get_left (get_all ks (room_in out) (index_of l i)) g out out'
+        (subst (λ (j : ℕ). Written (get_all ks (room_in out) (index_of l j)) out g.written g.more out') t.number w) ∙ promised d))
 
-  pub scan_told : (q : Request) (out : List ℕ) (r : Told.Scanned) (out' : List ℕ)
-      → Written (scan q (room_in out) (index_of l root)).listed out r.written r.more out' → r.opened ≡ (scan q (room_in out) (index_of l root)).opened
-      → Scans l i q out (Scan.Done r) out'
-  scan_told q out r out' w o =
+  pub scan_told : (q : Request) (out : List ℕ) (r : Result Told.Scanned Refusal) (x : Told.Scanned) (out' : List ℕ) → r ≡ Ok x
+      → Written (scan q (room_in out) (index_of l root)).listed out x.written x.more out' → x.opened ≡ (scan q (room_in out) (index_of l root)).opened
+      → Scans l i q out r out'
+  scan_told q out r x out' is w o =
       let s : Scanned = scan q (room_in out) (index_of l i) in
-      holds t.pool.sound
-      (swept_told s r out out' (subst (λ (j : ℕ). Written (scan q (room_in out) (index_of l j)).listed out r.written r.more out') t.number w)
+      rw is
+      (holds t.pool.sound
+      (scan_left s x out out' (subst (λ (j : ℕ). Written (scan q (room_in out) (index_of l j)).listed out x.written x.more out') t.number w)
       (o ∙ ap (λ (j : ℕ). (scan q (room_in out) (index_of l j)).opened) t.number)
-      ∙ ap (leaves swept (λ x. written out x.listed) out) (sym (answers t (done s))))
+      ∙ ap (leaves swept (λ y. written out y.listed) out) (sym (answers t (done s)))))
 
-  pub frame_told_lem : (n : ℕ) (line : List ℕ) (r : WriteAnswer) (line' : List ℕ) → Line.Writes (write_node n (length line) (index_of l root)) line r line'
+  pub frame_told_lem : (n : ℕ) (line : List ℕ) (r : Result ℕ Refusal) (line' : List ℕ) → Line.Writes (write_node n (length line) (index_of l root)) line r line'
       → Frames l i n line r line'
   frame_told_lem n line r line' w =
       let a : Answer (List ℕ) = write_node n (length line) (index_of l i) in

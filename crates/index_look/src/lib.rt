@@ -4,39 +4,30 @@
 ghost use Rattle.model.specs.Look.{request_for};
 ghost use Rattle.index_promise.specs.Promise.{Totalling, Gets, Scans, Frames};
 
-use frame_text::WriteAnswer;
 use index_named::find;
-use index_promise::{GetAnswer, ScanAnswer, TotalsAnswer};
 use index_refuse::descends;
-use model::{Bound, Direction, Request, Sift};
+use look_output::{Listed, Scanned};
+use model::{Bound, Direction, Refusal, Request, Sift, Totals};
 
 // Of a tree, the number of live entries, of dead ones, and the sum of the sizes of the live ones. Refused as 2 or 19.
-pub fn totals(pool: &[u8], tree: usize) -> TotalsAnswer
+pub fn totals(pool: &[u8], tree: usize) -> Result<Totals, Refusal>
     ensures { Totalling pool.now tree result }
 {
-    let at = find(pool, tree);
-    if at.refusal != 0 {
-        return TotalsAnswer::Refused(at.refusal);
-    }
-    let st = at.settings;
-    let t = look::totals(pool, st, at.height);
-    TotalsAnswer::Done(t)
+    let named = find(pool, tree)?;
+    let totals = look::totals(pool, named.settings, named.height);
+    Ok(totals)
 }
 
 // Writes one entry for each of the ascending keys that is present, dead ones too. Refused as 2, 19 or 5.
-pub fn get(pool: &[u8], tree: usize, keys: &[u64], out: &mut [u8]) -> GetAnswer
+pub fn get(pool: &[u8], tree: usize, keys: &[u64], out: &mut [u8]) -> Result<Listed, Refusal>
     ensures { Gets pool.now tree keys.now out.old result out.new }
 {
-    let at = find(pool, tree);
-    if at.refusal != 0 {
-        return GetAnswer::Refused(at.refusal);
-    }
+    let at = find(pool, tree)?;
     if descends(keys) {
-        return GetAnswer::Refused(5);
+        return Err(Refusal::KeysDescend);
     }
-    let st = at.settings;
-    let g = look::get(pool, st, at.height, keys, out);
-    GetAnswer::Done(g)
+    let listed = look::get(pool, at.settings, at.height, keys, out);
+    Ok(listed)
 }
 
 // Writes the live entries in a range whose size the sift lets pass, up or down. Refused as 2 or 19.
@@ -48,32 +39,24 @@ pub fn scan(
     direction: Direction,
     sift: Sift,
     out: &mut [u8],
-) -> ScanAnswer
+) -> Result<Scanned, Refusal>
     ensures { Scans pool.now tree (request_for start end direction sift) out.old result out.new }
 {
-    let at = find(pool, tree);
-    if at.refusal != 0 {
-        return ScanAnswer::Refused(at.refusal);
-    }
-    let st = at.settings;
+    let at = find(pool, tree)?;
     let q = Request {
         start,
         end,
         direction,
         sift,
     };
-    let s = look::scan(pool, st, at.height, q, out);
-    ScanAnswer::Done(s)
+    let scanned = look::scan(pool, at.settings, at.height, q, out);
+    Ok(scanned)
 }
 
 // Writes the i-th node of a tree's preorder walk as a line. Refused as 2, 19, 14 or 16.
-pub fn frame(pool: &[u8], tree: usize, i: usize, line: &mut [u8]) -> WriteAnswer
+pub fn frame(pool: &[u8], tree: usize, i: usize, line: &mut [u8]) -> Result<usize, Refusal>
     ensures { Frames pool.now tree i line.old result line.new }
 {
-    let at = find(pool, tree);
-    if at.refusal != 0 {
-        return WriteAnswer::Refused(at.refusal);
-    }
-    let st = at.settings;
-    frame::write_node(pool, st, at.height, i, line)
+    let at = find(pool, tree)?;
+    frame::write_node(pool, at.settings, at.height, i, line)
 }

@@ -1,63 +1,67 @@
 -- From the survey of a pool to a tree of it; and what a call takes from a tree that was found, or was not. Assumes nothing.
+use Rattle.std.specs.Prelude.{Some, Result, Ok, Err, is_ok}
+use Rattle.model.specs.declared.Refusal.TheVariants as Why
 use Prim.Native.Nat.{ℕ, zero, suc, ◌≤◌, ◌<◌}
 use native.Mathlib.Omega.{arith}
 use mathlib.Core.Path.{◌≡◌, refl, sym, ap, ◌∙◌, subst}
 use mathlib.Core.Logic.{◌≢◌}
-use mathlib.Core.Bool.{true, false, not}
+use mathlib.Core.Bool.{false, true≢false}
 use mathlib.Core.List.{List}
 use lib.Dec.{ltb}
-use borrow.Author.Tests.{lt-ltb, le-ltb}
+use borrow.Author.Tests.{lt-ltb}
 use Rattle.words.specs.Words.{words}
 use Rattle.model.specs.declared.Settings.{Settings}
 use Rattle.model.specs.Answer.{Answer, refused}
-use Rattle.model.specs.Sound.{root_for, handed, PoolLimits}
+use Rattle.model.specs.Sound.{root_for, handed}
 use Rattle.model.specs.Forest.{named}
 use Rattle.model.proofs.Lists.{by_test}
 use Rattle.tree.specs.Pool.{given_in, nodes_in, SoundPool}
 use Rattle.tree.proofs.Pools.{tree_sees, number_below}
 use Rattle.survey.specs.declared.Findings.{Findings}
 use Rattle.survey.specs.Promises.{Surveyed, height_for}
-use Rattle.survey.proofs.Founds.{unsound, told, sound, limits, tree_in}
+use Rattle.survey.proofs.Founds.{sound, found, tree_in}
 use Rattle.index_promise.specs.Promise.{Where, holds, fails, ◌leaving◌, leaves}
 use Rattle.index_named.specs.declared.Named.{Named}
-use Rattle.index_named.specs.Promises.{TreeFound, Refused, Finds, not_found}
+use Rattle.index_named.specs.Promises.{TreeFound, Refused, Finds}
 use Rattle.index_named.proofs.Spares.{spared_seen}
 
 -- THE SEARCH
+
+err_ok : {T E : Type 0} {e : E} {t : T} → ◌≡◌ {A = Result T E} (Err e) (Ok t) → ⊥
+err_ok q = true≢false (sym (ap is_ok q))
+
+ok_same : {T E : Type 0} {t u : T} → ◌≡◌ {A = Result T E} (Ok t) (Ok u) → t ≡ u
+ok_same q = cc
 
 root_is : (i : ℕ) → i ≤ 1 → root_for i ≡ i
 root_is zero h = refl
 root_is (suc i) h = omega arith
 
-module _ {l : List ℕ} {f : Findings} (s : Surveyed l f) (i : ℕ) where
-  pub no_pool : not f.sound ≡ true → (r : Named) → r ≡ not_found 2 → Finds l i r
-  no_pool e r q = rw q (record { refusal = fails (unsound s e) refl; tree = λ z. absurd (omega arith) })
+pub no_pool : {l : List ℕ} (i : ℕ) → (SoundPool l → ⊥) → Finds l i (Err Why.Unsound)
+no_pool i f = record { refusal = fails f refl; tree = λ t e. absurd (err_ok e) }
 
-  module _ (e : not f.sound ≡ false) where
-    pub in_limits : PoolLimits f.given
-    in_limits = limits s (told s e)
+module _ {l : List ℕ} {f : Findings} (s : Surveyed l (Some f)) (i : ℕ) where
+  module _ (h : i ≤ 1) (st : Settings) (height : ℕ) (handed_is : st ≡ handed f.given i) (tall : height ≡ height_for i f) where
+    abbrev tree : Named
+    tree = record { settings = st; height = height; spare = f.spare }
 
-    pub no_tree : (r : Named) → r ≡ not_found 19 → 1 < i → Finds l i r
-    no_tree r q h = rw q (record { refusal = holds (sound s e) (rw (le-ltb i 2 h) refl); tree = λ z. absurd (omega arith) })
+    number : st.root ≡ i
+    number = ap (λ (u : Settings). u.root) handed_is ∙ root_is i h
 
-    module _ (h : i ≤ 1) (st : Settings) (height : ℕ) (handed_is : st ≡ handed f.given i) (tall : height ≡ height_for i f) where
-      abbrev tree : Named
-      tree = record { refusal = 0; settings = st; height = height; spare = f.spare }
+    its_own : TreeFound l i tree
+    its_own =
+        record {
+          number = number;
+          pool = tree_in s i st height handed_is tall;
+          spared = rw (tree_sees (given_in l) (words l) i) (spared_seen (root_for i) (nodes_in l 0) f.spare (found s).spared);
+        }
 
-      number : st.root ≡ i
-      number = ap (λ (u : Settings). u.root) handed_is ∙ root_is i h
-
-      pub found : Finds l i tree
-      found =
-          record {
-            refusal = holds (sound s e) (rw (lt-ltb i 2 (omega arith)) refl);
-            tree = λ _.
-                record {
-                  number = number;
-                  pool = tree_in s (told s e) i st height handed_is tall;
-                  spared = rw (tree_sees (given_in l) (words l) i) (spared_seen (root_for i) (nodes_in l 0) f.spare (s.spared (told s e)));
-                };
-          }
+    pub known : Finds l i (Ok tree)
+    known =
+        record {
+          refusal = holds (sound s) (rw (lt-ltb i 2 (omega arith)) refl);
+          tree = λ t e. subst (TreeFound l i) (ok_same e) its_own;
+        }
 
 -- A TREE THAT WAS FOUND is there
 

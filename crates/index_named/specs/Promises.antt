@@ -1,5 +1,7 @@
 -- What is found of the tree that a call names. Assumes nothing.
-use Rattle.std.specs.Prelude.{ℕ, ◌≡◌, cond, List, ltb}
+use Rattle.std.specs.Prelude.{ℕ, ◌≡◌, cond, List, ltb, Result, Ok}
+use Rattle.model.specs.declared.Refusal.{Refusal}
+use Rattle.model.specs.Answer.{code}
 use Rattle.tree.specs.Pool.{nodes_in, SoundPool}
 use Rattle.tree.specs.Promises.{InPool}
 use Rattle.tree_spare.specs.Spared.{Spared}
@@ -16,18 +18,6 @@ pub record TreeFound (l : List ℕ) (i : ℕ) (r : Named) : Type 0 where
 abbrev pub Refused : List ℕ → ℕ → ℕ → Type 0
 Refused l i n = Where (SoundPool l) (cond (ltb i 2) 0 19) 2 n
 
-pub record Finds (l : List ℕ) (i : ℕ) (r : Named) : Type 0 where
-  pub refusal : Refused l i r.refusal
-  pub tree : r.refusal ≡ 0 → TreeFound l i r
-
--- WITHIN THE SEARCH
-
--- the answer where nothing is found
-abbrev pub not_found : ℕ → Named
-not_found n =
-    record {
-      refusal = n;
-      settings = record { nodes = 0; order = 0; minimum = 0; rows = 0; root = 0 };
-      height = 0;
-      spare = record { low = 0; unused = 0 };
-    }
+pub record Finds (l : List ℕ) (i : ℕ) (r : Result Named Refusal) : Type 0 where
+  pub refusal : Refused l i (code r)
+  pub tree : (t : Named) → r ≡ Ok t → TreeFound l i t

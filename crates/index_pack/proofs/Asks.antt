@@ -1,43 +1,23 @@
--- What is asked of the two pools before the first write: whether they differ, whether a tree is bare, and how many entries it has. Assumes nothing.
+-- What is asked of the two pools before the first write: whether a tree is bare, and how many entries it has. Assumes nothing.
 use mathlib.Core.Path.{◌≡◌, sym, ap, ◌∙◌}
-use mathlib.Core.Logic.{◌≢◌}
-use mathlib.Core.Bool.{Bool, true, false, not, ◌&&◌, ◌||◌}
+use mathlib.Core.Bool.{Bool, ◌&&◌}
 use mathlib.Core.List.{List}
 use Prim.Native.Nat.{ℕ, zero, suc, ◌+◌}
 use lib.Dec.{eqb}
 use lib.ListN.{length, length-map}
-use borrow.Author.Tests.{eq-eqb, ne_eqb}
+use borrow.Author.Tests.{eq-eqb}
 use Rattle.words.specs.Words.{words}
 use Rattle.slots.specs.Nodes.{nth, rows_at}
 use Rattle.slots.specs.Nodes as S
-use Rattle.model.specs.declared.Limits.{Limits}
-use Rattle.model.specs.declared.PoolSettings.{PoolSettings}
 use Rattle.model.specs.declared.Settings.{Settings}
 use Rattle.model.specs.declared.Totals.{Totals}
 use Rattle.model.specs.Tree.{len, entries_of, totals_of}
-use Rattle.model_pack.specs.Pack.{differ, is_new}
-use Rattle.model_pack.specs.PackForest.{forests_differ}
+use Rattle.model_pack.specs.Pack.{is_new}
 use Rattle.model.specs.Sound.{root_for}
 use Rattle.tree.specs.Bridge.{entry_of, child_of, tree_at}
 use Rattle.tree.specs.Pool.{nodes_in, index_of}
 use Rattle.tree.proofs.ReadOff.{total_count}
 use Rattle.tree.specs.Promises.{InPool}
-
--- WHETHER TWO POOLS DIFFER
-
-pub orders_differ : (a b : Limits) → a.order ≢ b.order → true ≡ differ a b
-orders_differ a b ne = ap (λ (t : Bool). not (t && eqb a.minimum b.minimum)) (sym (ne_eqb a.order b.order ne))
-
-pub minimums_tell : (a b : Limits) → a.order ≡ b.order → not (eqb a.minimum b.minimum) ≡ differ a b
-minimums_tell a b e = ap (λ (t : Bool). not (t && eqb a.minimum b.minimum)) (sym (eq-eqb a.order b.order e))
-
--- the first trees do, or else the second ones tell
-module _ (a b : PoolSettings) (r : Bool) (is : r ≡ differ a.first b.first) where
-  pub first_differ : r ≡ true → true ≡ forests_differ a b
-  first_differ e = ap (◌|| differ a.second b.second) (sym e ∙ is)
-
-  pub second_tell : r ≡ false → (q : Bool) → q ≡ differ a.second b.second → q ≡ forests_differ a b
-  second_tell e q same = same ∙ ap (◌|| differ a.second b.second) (sym e ∙ is)
 
 -- WHETHER A TREE IS BARE
 
@@ -46,10 +26,6 @@ root_length ns zero s = length-map (nth ns s).rows entry_of
 root_length ns (suc h) s = length-map (nth ns s).rows (λ r. tree_at ns h (child_of r))
 
 module _ (l : List ℕ) (st : Settings) (height : ℕ) (k : InPool l st height) where
-  pub tall_not_bare : height ≢ 0 → false ≡ is_new (index_of l st.root)
-  tall_not_bare ne =
-      ap (λ (t : Bool). t && eqb (len (index_of l st.root).root) 0) (sym (ne_eqb (index_of l st.root).height 0 (λ e. ne (k.tall ∙ e))))
-
   pub leaf_bare : height ≡ 0 → (n : ℕ) → n ≡ length (rows_at st (words l) st.root) → eqb n 0 ≡ is_new (index_of l st.root)
   leaf_bare low n e =
       let rows : length (rows_at st (words l) st.root) ≡ len (index_of l st.root).root =

@@ -1,10 +1,10 @@
 // The call that packs a pool into another one: both trees, the second's other nodes behind the first's.
 #![tactic(auto)]
 
-ghost use Rattle.std.specs.Prelude.{◌≡◌, length};
+ghost use Rattle.std.specs.Prelude.{◌≡◌, length, Some};
 ghost use Rattle.words.specs.Words.{words};
 ghost use Rattle.model.specs.Tree.{entries_of};
-ghost use Rattle.model_pack.specs.Pack.{differ, is_new};
+ghost use Rattle.model_pack.specs.Pack.{is_new};
 ghost use Rattle.model_pack.specs.PackForest.{is_new_forest, forests_differ};
 ghost use Rattle.tree.specs.Pool.{index_of, forest_of};
 ghost use Rattle.tree.specs.Promises.{InPool};
@@ -12,10 +12,10 @@ ghost use Rattle.pack.specs.Build.{entries_in, tree_for};
 ghost use Rattle.pack.specs.Promises.{ToBuild, Built};
 ghost use Rattle.index_promise.specs.Promise.{Packs};
 ghost use Rattle.index_pack.specs.Plan.{plan_for, piece_of};
-ghost use Rattle.index_pack.specs.Promises.{Found, ToCopy};
+ghost use Rattle.index_pack.specs.Promises.{ToCopy};
+ghost use Rattle.survey.specs.Promises.{Surveyed};
 
-use index_promise::PackAnswer;
-use model::{Limits, PoolSettings, Settings};
+use model::{PoolSettings, Refusal, Settings};
 use model_code::handed;
 use pack::{Piece, Source};
 use pack_plan::{height_for, nodes_for};
@@ -23,22 +23,16 @@ use survey::Findings;
 
 // Copies the entries of a pool into a second one, a new pool of the same orders and minimums, tree by tree, so that every node is full but the last of
 // its level. Refused as 2, 17, 18 or 7. The first pool is only read.
-pub fn pack(source: &[u8], target: &mut [u8]) -> PackAnswer
+pub fn pack(source: &[u8], target: &mut [u8]) -> Result<(), Refusal>
     ensures { Packs source.now target.old result target.new }
 {
-    let from = survey::survey(source);
-    if !from.sound {
-        return PackAnswer::Refused(2);
-    }
-    let to = survey::survey(target);
-    if !to.sound {
-        return PackAnswer::Refused(2);
-    }
+    let from = survey::survey(source).ok_or(Refusal::Unsound)?;
+    let to = survey::survey(target).ok_or(Refusal::Unsound)?;
     if settings_differ(from.given, to.given) {
-        return PackAnswer::Refused(17);
+        return Err(Refusal::SettingsDiffer);
     }
     if !is_new(target, to) {
-        return PackAnswer::Refused(18);
+        return Err(Refusal::TargetNotNew);
     }
     copy_trees(source, from, target, to)
 }
@@ -47,32 +41,17 @@ pub fn pack(source: &[u8], target: &mut [u8]) -> PackAnswer
 fn settings_differ(a: PoolSettings, b: PoolSettings) -> bool
     ensures { result ≡ forests_differ a b }
 {
-    if limits_differ(a.first, b.first) {
-        return true;
-    }
-    limits_differ(a.second, b.second)
-}
-
-fn limits_differ(a: Limits, b: Limits) -> bool
-    ensures { result ≡ differ a b }
-{
-    if a.order != b.order {
-        return true;
-    }
-    a.minimum != b.minimum
+    a.first != b.first || a.second != b.second
 }
 
 // Whether a pool is two empty leaves.
 fn is_new(pool: &[u8], found: Findings) -> bool
-    requires { Found pool.now found }
+    requires { Surveyed pool.now (Some found) }
     ensures { result ≡ is_new_forest (forest_of pool.now) }
 {
     let first = handed(found.given, 0);
-    if !is_bare(pool, first, found.first) {
-        return false;
-    }
     let second = handed(found.given, 1);
-    is_bare(pool, second, found.second)
+    is_bare(pool, first, found.first) && is_bare(pool, second, found.second)
 }
 
 // Whether a tree is one empty leaf.
@@ -80,14 +59,11 @@ fn is_bare(pool: &[u8], st: Settings, height: usize) -> bool
     requires { InPool pool.now st height }
     ensures { result ≡ is_new (index_of pool.now st.root) }
 {
-    if height != 0 {
-        return false;
-    }
-    slots::count(pool, st, st.root) == 0
+    height == 0 && slots::count(pool, st, st.root) == 0
 }
 
 // Copies both trees, if there is room for them. The first tree's other nodes come straight after the roots, the second's straight after those.
-fn copy_trees(source: &[u8], from: Findings, target: &mut [u8], to: Findings) -> PackAnswer
+fn copy_trees(source: &[u8], from: Findings, target: &mut [u8], to: Findings) -> Result<(), Refusal>
     requires { ToCopy source.now from target.old to }
     ensures { Packs source.now target.old result target.new }
 {
@@ -96,11 +72,11 @@ fn copy_trees(source: &[u8], from: Findings, target: &mut [u8], to: Findings) ->
     let st = handed(to.given, 0);
     let needed = first.nodes + second.nodes;
     if st.nodes < needed {
-        return PackAnswer::Refused(7);
+        return Err(Refusal::TooFewUnused);
     }
     let next = copy_tree(target, st, source, first, 2);
     copy_tree(target, handed(to.given, 1), source, second, next);
-    PackAnswer::Done
+    Ok(())
 }
 
 // What is known of a packed tree before anything is written: where its entries stand and how many they are, its height, and the number of its nodes.

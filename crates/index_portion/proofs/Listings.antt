@@ -179,8 +179,8 @@ pub joined : Joined
 joined i start end sift ms l out s out' on same scans all =
     let D : List Entry = due_of i end sift start l in
     whole i end sift l start on same
-    ∙ sym (scan_stands l i start end sift out refl scans
-    ∙ take_all (room_in out) D (ltb-false (room_in out) (length D) (sym (scan_more l i start end sift out refl scans) ∙ all)))
+    ∙ sym (scan_stands l i start end sift out scans
+    ∙ take_all (room_in out) D (ltb-false (room_in out) (length D) (sym (scan_more l i start end sift out scans) ∙ all)))
 
 pub joined_so_far : JoinedSoFar
 joined_so_far i start end sift b ms l on same = so_far i end sift l start on same

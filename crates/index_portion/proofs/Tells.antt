@@ -1,11 +1,13 @@
 -- What is made of a scan's answer keeps the promise of a portion; and what is known of a portion that was done. Assumes nothing.
-use mathlib.Core.Path.{◌≡◌, sym, ap, ◌∙◌, subst}
+use mathlib.Core.Path.{◌≡◌, sym, ap, ◌∙◌}
 use mathlib.Core.List.{List}
 use Prim.Native.Nat.{ℕ, ◌*◌, ◌≤◌}
 use native.Mathlib.Omega.{arith}
 use lib.ListN.{length, take, length-take}
 use lib.Dec.{ltb}
 use Rattle.words.specs.Words.{words}
+use Rattle.std.specs.Prelude.{Result, Ok}
+use Rattle.model.specs.declared.Refusal.{Refusal}
 use Rattle.model.specs.declared.Entry.{Entry}
 use Rattle.model.specs.declared.Bound.{Bound}
 use Rattle.model.specs.declared.Sift.{Sift}
@@ -22,11 +24,8 @@ use Rattle.look_output.proofs.Outputs.{read_back, output_long}
 use Rattle.look_portion.specs.declared.Portion.{Portion}
 use Rattle.look_portion.specs.Portion.{upwards, next_start, ends_listing, Shown, portion}
 use Rattle.look_portion.specs.Promises.{portion_in}
-use Rattle.index_promise.specs.declared.ScanAnswer.{ScanAnswer}
-use Rattle.index_promise.specs.declared.ScanAnswer.TheVariants as Scan
-use Rattle.index_promise.specs.declared.PortionAnswer.TheVariants as Portioned
 use Rattle.index_promise.specs.Promise.{holds, ◌leaving◌, leaves, written, shown, Scans, Portions}
-use Rattle.index_promise.proofs.Dones.{named_is, ScanDone, scan_done, PortionDone, portion_done, portion_refused}
+use Rattle.index_promise.proofs.Dones.{named_is, ScanDone, scan_done, PortionDone, portion_done}
 
 module _ (l : List ℕ) (i : ℕ) (start end : Bound) (sift : Sift) (out : List ℕ) where
   -- the model's scan, and the entries that it lists
@@ -47,9 +46,9 @@ module _ (l : List ℕ) (i : ℕ) (start end : Bound) (sift : Sift) (out : List 
 
   -- FROM THE SCAN
 
-  module _ {r : ScanAnswer} {s : Told.Scanned} {out' : List ℕ} (is : r ≡ Scan.Done s) (scans : Scans l i (upwards start end sift) out r out') where
+  module _ {s : Told.Scanned} {out' : List ℕ} (scans : Scans l i (upwards start end sift) out (Ok s) out') where
     abbrev known : ScanDone l i (upwards start end sift) out s out'
-    known = scan_done l i (upwards start end sift) out (subst (λ (a : ScanAnswer). Scans l i (upwards start end sift) out a out') is scans)
+    known = scan_done l i (upwards start end sift) out scans
 
     number : s.written ≡ length listed_by
     number = ap (λ (x : Told.Scanned). x.written) known.tells
@@ -74,17 +73,14 @@ module _ (l : List ℕ) (i : ℕ) (start end : Bound) (sift : Sift) (out : List 
         ∙ ap (λ (n : ℕ). record { scanned = s; next = next_start start listed_by; ended = ends_listing n s.more }) room
         ∙ ap (λ (x : Told.Scanned). record { scanned = x; next = next_start start listed_by; ended = ends_listing (room_in out) x.more }) known.tells
 
-    pub portion_told : {p : Portion} → p ≡ portion_in start s out' → Portions l i start end sift out (Portioned.Done p) out'
-    portion_told e =
+    -- what the call answers is named beside what was told, so that an answer that is another is refused at once
+    pub portion_told : (r : Result Portion Refusal) (p : Portion) → r ≡ Ok p → p ≡ portion_in start s out' → Portions l i start end sift out r out'
+    portion_told r p is e =
         let q : Shown = portion start end sift (room_in out) (index_of l i) in
-        holds known.sound
+        rw is
+        (holds known.sound
         (ap (λ (x : Portion). done x leaving out') (e ∙ told_is) ∙ ap (λ (o : List ℕ). done (shown q) leaving o) known.leaves
-        ∙ ap (leaves shown (λ x. written out x.scanned.listed) out) (sym (named_is i (done q) known.tree)))
-
-  pub told_refused : {r : ScanAnswer} {n : ℕ} {out' : List ℕ} → r ≡ Scan.Refused n → Scans l i (upwards start end sift) out r out'
-      → Portions l i start end sift out (Portioned.Refused n) out'
-  told_refused {out' = out'} is scans =
-      portion_refused l i start end sift out (subst (λ (a : ScanAnswer). Scans l i (upwards start end sift) out a out') is scans)
+        ∙ ap (leaves shown (λ x. written out x.scanned.listed) out) (sym (named_is i (done q) known.tree))))
 
   -- OF ONE THAT WAS DONE: the tree is in order, and what is shown, the next start and the end follow from what is due in it
 
@@ -96,7 +92,7 @@ module _ (l : List ℕ) (i : ℕ) (start end : Bound) (sift : Sift) (out : List 
     pub ended : p.ended ≡ ends_listing (room_in out) p.scanned.more
     pub more : p.scanned.more ≡ ltb (room_in out) (length (due_in (upwards start end sift) (entries_of (index_of l i))))
 
-  pub right : {p : Portion} {out' : List ℕ} → Portions l i start end sift out (Portioned.Done p) out' → Right p out'
+  pub right : {p : Portion} {out' : List ℕ} → Portions l i start end sift out (Ok p) out' → Right p out'
   right {p} {out'} portions =
       let d : PortionDone l i start end sift out p out' = portion_done l i start end sift out portions in
       let more : p.scanned.more ≡ swept_by.listed.more = ap (λ (x : Portion). x.scanned.more) d.tells in

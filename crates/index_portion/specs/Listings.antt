@@ -1,12 +1,13 @@
 -- A listing in portions: what document 02 says of it (A5), of the calls, whatever answers keep the promises. Assumes nothing.
-use Rattle.std.specs.Prelude.{ℕ, ◌+◌, ◌<◌, ◌≡◌, Bool, true, false, List, [], ◌∷◌, map, take}
+use Rattle.std.specs.Prelude.{ℕ, ◌+◌, ◌<◌, ◌≡◌, Bool, true, false, List, [], ◌∷◌, map, take, Result, Ok}
 use Rattle.words.specs.Words.{words}
 use Rattle.model.specs.declared.Entry.{Entry}
 use Rattle.model.specs.declared.Bound.{Bound}
 use Rattle.model.specs.declared.Sift.{Sift}
 use Rattle.model.specs.Lists.{concat, times, All}
 use Rattle.model.specs.Tree.{entries_of}
-use Rattle.model.specs.Answer.{done}
+use Rattle.model.specs.declared.Refusal.{Refusal}
+use Rattle.model.specs.Answer.{done, told}
 use Rattle.model.specs.Look.{due_in}
 use Rattle.model.specs.Sound.{Sorted}
 use Rattle.tree.specs.Pool.{index_of}
@@ -14,10 +15,7 @@ use Rattle.look_output.specs.declared.Scanned.{Scanned}
 use Rattle.look_output.specs.Output.{read_entries, room_in}
 use Rattle.look_portion.specs.declared.Portion.{Portion}
 use Rattle.look_portion.specs.Portion.{upwards, next_start, entry_keys}
-use Rattle.index_promise.specs.declared.ScanAnswer.{ScanAnswer}
-use Rattle.index_promise.specs.declared.ScanAnswer.TheVariants as Scan
-use Rattle.index_promise.specs.declared.PortionAnswer.TheVariants as Portioned
-use Rattle.index_promise.specs.Promise.{Scans, scanned, Portions}
+use Rattle.index_promise.specs.Promise.{Scans, Portions}
 
 -- A MOMENT of a listing: the pool as it is then, the output that is lent, what the portion tells, and the output after it
 pub record Moment : Type 0 where
@@ -49,7 +47,7 @@ held_in i l = entries_of (index_of l i)
 module _ (i : ℕ) (end : Bound) (sift : Sift) where
   -- the portion from a start was done at a moment
   abbrev pub DoneAt : Bound → Moment → Type 0
-  DoneAt start m = Portions m.pool i start end sift m.out (Portioned.Done m.told) m.after
+  DoneAt start m = Portions m.pool i start end sift m.out (Ok m.told) m.after
 
   -- Each portion starts where the one before it said, and the first that ends the listing is the last. It may not have ended yet. No word is said of the
   -- pools: whatever happened between two moments, each is a pool of which the portion was done.
@@ -70,8 +68,8 @@ module _ (i : ℕ) (end : Bound) (sift : Sift) where
 -- EACH PORTION IS RIGHT for the tree at its moment: it tells and writes what a scan of that pool from its start does
 abbrev pub EachRight : Type 0
 EachRight =
-    (i : ℕ) (start end : Bound) (sift : Sift) (m : Moment) (r : ScanAnswer) (out' : List ℕ) → DoneAt i end sift start m
-    → Scans m.pool i (upwards start end sift) m.out r out' → (scanned r ≡ done m.told.scanned) × (out' ≡ m.after)
+    (i : ℕ) (start end : Bound) (sift : Sift) (m : Moment) (r : Result Scanned Refusal) (out' : List ℕ) → DoneAt i end sift start m
+    → Scans m.pool i (upwards start end sift) m.out r out' → (told r ≡ done m.told.scanned) × (out' ≡ m.after)
 
 -- EACH STARTS AFTER THE LAST KEY SHOWN, and where none was shown it starts where the one before it did
 abbrev pub StartsAfter : Type 0
@@ -82,7 +80,7 @@ StartsAfter = (i : ℕ) (start end : Bound) (sift : Sift) (m : Moment) → DoneA
 abbrev pub Joined : Type 0
 Joined =
     (i : ℕ) (start end : Bound) (sift : Sift) (ms : List Moment) (l out : List ℕ) (s : Scanned) (out' : List ℕ) → InPortions i end sift start true ms
-    → All (λ m. held_in i m.pool ≡ held_in i l) ms → Scans l i (upwards start end sift) out (Scan.Done s) out' → s.more ≡ false
+    → All (λ m. held_in i m.pool ≡ held_in i l) ms → Scans l i (upwards start end sift) out (Ok s) out' → s.more ≡ false
     → shown_in ms ≡ read_entries s.written (words out')
 
 -- and while the listing goes on they are as much of it as their sizes together

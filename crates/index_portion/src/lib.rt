@@ -4,9 +4,8 @@
 
 ghost use Rattle.index_promise.specs.Promise.{Portions};
 
-use index_promise::{PortionAnswer, ScanAnswer};
-use look_portion::after_scan;
-use model::{Bound, Direction, Sift};
+use look_portion::{Portion, after_scan};
+use model::{Bound, Direction, Refusal, Sift};
 
 // Writes the first live entries from `start` to `end` whose size the sift lets pass, as many as fit. Refused as 2 or 19.
 pub fn portion(
@@ -16,15 +15,10 @@ pub fn portion(
     end: Bound,
     sift: Sift,
     out: &mut [u8],
-) -> PortionAnswer
+) -> Result<Portion, Refusal>
     ensures { Portions pool.now tree start end sift out.old result out.new }
 {
-    let answer = index_look::scan(pool, tree, start, end, Direction::Up, sift, out);
-    match answer {
-        ScanAnswer::Done(s) => {
-            let p = after_scan(start, s, out);
-            PortionAnswer::Done(p)
-        }
-        ScanAnswer::Refused(n) => PortionAnswer::Refused(n),
-    }
+    let scanned = index_look::scan(pool, tree, start, end, Direction::Up, sift, out)?;
+    let shown = after_scan(start, scanned, out);
+    Ok(shown)
 }

@@ -4,9 +4,10 @@ use mathlib.Core.Path.{◌≡◌, refl, sym, ap, ◌∙◌}
 use mathlib.Core.Bool.{Bool, true, false, cond}
 use mathlib.Core.List.{List}
 use Prim.Native.Nat.{ℕ, ◌<◌}
-use native.Mathlib.Omega.{arith}
 use lib.Dec.{ltb}
 use borrow.Author.Tests.{ltb-true, lt-ltb}
+use Rattle.std.specs.Prelude.{Ok, Err}
+use Rattle.model.specs.declared.Refusal.{Refusal}
 use Rattle.model.specs.Answer.{Answer, refused, done}
 use Rattle.model.specs.Forest.{named}
 use Rattle.model.proofs.Answers.{refused_done}
@@ -19,8 +20,6 @@ use Rattle.look_output.specs.declared.Scanned as Told
 use Rattle.look_output.specs.Output.{room_in}
 use Rattle.look_portion.specs.declared.Portion.{Portion}
 use Rattle.look_portion.specs.Portion.{upwards, portion}
-use Rattle.index_promise.specs.declared.ScanAnswer.TheVariants as Scan
-use Rattle.index_promise.specs.declared.PortionAnswer.TheVariants as Portioned
 use Rattle.index_promise.proofs.Unique.{parts}
 use Rattle.index_promise.specs.Promise.{Where, holds, fails, Left, ◌leaving◌, leaves, unsound, swept, shown, written, Scans, Portions}
 
@@ -44,21 +43,21 @@ named_is i a low = rw (lt-ltb i 2 low) refl
 
 -- WHERE ONE WAS DONE the pool is sound and has the tree, and what it tells and leaves is what is said of that tree, here a
 
-module _ {A B : Type 0} (l : List ℕ) (i : ℕ) (a : A) (told : A → B) (bytes : A → List ℕ) where
+module _ {A B : Type 0} (l : List ℕ) (i : ℕ) (a : A) (says : A → B) (bytes : A → List ℕ) where
   pub record WasDone (v : B) (out' : List ℕ) : Type 0 where
     pub sound : SoundPool l
     pub tree : i < 2
-    pub tells : v ≡ told a
+    pub tells : v ≡ says a
     pub leaves : out' ≡ bytes a
 
   abbrev pub Reads : List ℕ → Left B → Type 0
-  Reads out r = Where (SoundPool l) (leaves told bytes out (named i (done a))) (unsound out) r
+  Reads out r = Where (SoundPool l) (leaves says bytes out (named i (done a))) (unsound out) r
 
   pub was_done : (out : List ℕ) {v : B} {out' : List ℕ} → Reads out (done v leaving out') → WasDone v out'
   was_done out {v} {out'} (fails u e) = absurd (refused_done 2 v (sym (parts e).0))
   was_done out {v} {out'} (holds s e) = by (ltb i 2) refl e
     where
-      by : (t : Bool) → ltb i 2 ≡ t → (done v leaving out') ≡ leaves told bytes out (cond t (done a) (refused 19)) → WasDone v out'
+      by : (t : Bool) → ltb i 2 ≡ t → (done v leaving out') ≡ leaves says bytes out (cond t (done a) (refused 19)) → WasDone v out'
       by true low g = record { sound = s; tree = ltb-true i 2 low; tells = done_is (parts g).0; leaves = (parts g).1 }
       by false high g = absurd (refused_done 19 v (sym (parts g).0))
 
@@ -68,26 +67,17 @@ module _ {A B : Type 0} (l : List ℕ) (i : ℕ) (a : A) (told : A → B) (bytes
   refused_alike c other others out (fails u e) = fails u (refusal_alike e)
   refused_alike c other others out {n} {out'} (holds s e) = holds s (by (ltb i 2) e)
     where
-      by : (t : Bool) → (refused n leaving out') ≡ leaves told bytes out (cond t (done a) (refused 19))
+      by : (t : Bool) → (refused n leaving out') ≡ leaves says bytes out (cond t (done a) (refused 19))
           → (refused n leaving out') ≡ leaves other others out (cond t (done c) (refused 19))
-      by true g = absurd (refused_done n (told a) (parts g).0)
+      by true g = absurd (refused_done n (says a) (parts g).0)
       by false g = refusal_alike g
-
-  -- and its number is not 0
-  pub refused_some : (out : List ℕ) {n : ℕ} {out' : List ℕ} → Reads out (refused n leaving out') → 0 < n
-  refused_some out (fails u e) = omega (arith, refused_is (parts e).0)
-  refused_some out {n} {out'} (holds s e) = by (ltb i 2) e
-    where
-      by : (t : Bool) → (refused n leaving out') ≡ leaves told bytes out (cond t (done a) (refused 19)) → 0 < n
-      by true g = absurd (refused_done n (told a) (parts g).0)
-      by false g = omega (arith, refused_is (parts g).0)
 
 -- SCANS AND PORTIONS
 
 abbrev pub ScanDone : List ℕ → ℕ → Request → List ℕ → Told.Scanned → List ℕ → Type 0
 ScanDone l i q out s out' = WasDone l i (scan q (room_in out) (index_of l i)) swept (λ x. written out x.listed) s out'
 
-pub scan_done : (l : List ℕ) (i : ℕ) (q : Request) (out : List ℕ) {s : Told.Scanned} {out' : List ℕ} → Scans l i q out (Scan.Done s) out'
+pub scan_done : (l : List ℕ) (i : ℕ) (q : Request) (out : List ℕ) {s : Told.Scanned} {out' : List ℕ} → Scans l i q out (Ok s) out'
     → ScanDone l i q out s out'
 scan_done l i q out = was_done l i (scan q (room_in out) (index_of l i)) swept (λ x. written out x.listed) out
 
@@ -95,18 +85,12 @@ abbrev pub PortionDone : List ℕ → ℕ → Bound → Bound → Sift → List 
 PortionDone l i start end sift out p out' = WasDone l i (portion start end sift (room_in out) (index_of l i)) shown (λ x. written out x.scanned.listed) p out'
 
 pub portion_done : (l : List ℕ) (i : ℕ) (start end : Bound) (sift : Sift) (out : List ℕ) {p : Portion} {out' : List ℕ}
-    → Portions l i start end sift out (Portioned.Done p) out' → PortionDone l i start end sift out p out'
+    → Portions l i start end sift out (Ok p) out' → PortionDone l i start end sift out p out'
 portion_done l i start end sift out = was_done l i (portion start end sift (room_in out) (index_of l i)) shown (λ x. written out x.scanned.listed) out
 
 -- a portion whose scan is refused is refused
-pub portion_refused : (l : List ℕ) (i : ℕ) (start end : Bound) (sift : Sift) (out : List ℕ) {n : ℕ} {out' : List ℕ}
-    → Scans l i (upwards start end sift) out (Scan.Refused n) out' → Portions l i start end sift out (Portioned.Refused n) out'
-portion_refused l i start end sift out =
+pub portion_refused : (l : List ℕ) (i : ℕ) (start end : Bound) (sift : Sift) (out : List ℕ) (why : Refusal) {out' : List ℕ}
+    → Scans l i (upwards start end sift) out (Err why) out' → Portions l i start end sift out (Err why) out'
+portion_refused l i start end sift out why =
     refused_alike l i (scan (upwards start end sift) (room_in out) (index_of l i)) swept (λ x. written out x.listed)
     (portion start end sift (room_in out) (index_of l i)) shown (λ x. written out x.scanned.listed) out
-
--- and by a number that is not 0
-pub portion_number : (l : List ℕ) (i : ℕ) (start end : Bound) (sift : Sift) (out : List ℕ) {n : ℕ} {out' : List ℕ}
-    → Portions l i start end sift out (Portioned.Refused n) out' → 0 < n
-portion_number l i start end sift out =
-    refused_some l i (portion start end sift (room_in out) (index_of l i)) shown (λ x. written out x.scanned.listed) out

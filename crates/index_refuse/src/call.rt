@@ -1,37 +1,36 @@
 // The refusals that look at the call alone.
 ghost use Rattle.std.specs.Prelude.{◌≡◌};
-ghost use Rattle.model.specs.Refuse.{call, descend, is_each, call_refusal};
+ghost use Rattle.model.specs.Answer.{code};
+ghost use Rattle.model.specs.Refuse.{called, descend, is_each, call_refusal};
 ghost use Rattle.index_refuse.specs.Refusals.{miscounts};
 
-use model::{Operation, Settings};
+use model::{Batch, Operation, Refusal, Settings};
 
-// The first of 3, 4 and 5 that applies; 0 where none does.
-pub fn call_refusal(st: Settings, keys: &[u64], places: &[u64], sizes: &[u32], op: Operation) -> u32
-    ensures { result ≡ call_refusal st (call op places.now sizes.now keys.now) 0 }
+// The first of the call's own refusals that applies.
+pub fn check_call(st: Settings, batch: &Batch) -> Result<(), Refusal>
+    ensures { code result ≡ call_refusal st (called batch.now) 0 }
 {
-    let n = keys.len();
+    let n = batch.keys.len();
     if st.order < n {
-        return 3;
+        return Err(Refusal::TooManyKeys);
     }
-    if miscounted(op, places.len(), sizes.len(), n) {
-        return 4;
+    if miscounted(batch.operation, batch.places.len(), batch.sizes.len(), n) {
+        return Err(Refusal::ReferencesMiscounted);
     }
-    if descends(keys) {
-        return 5;
+    if descends(batch.keys) {
+        return Err(Refusal::KeysDescend);
     }
-    0
+    Ok(())
 }
 
 // Whether a key is followed by a smaller one.
 pub fn descends(keys: &[u64]) -> bool
     ensures { result ≡ descend keys.now }
 {
-    let mut i = 1;
-    while i < keys.len() {
+    for i in 1..keys.len() {
         if keys[i] < keys[i - 1] {
             return true;
         }
-        i += 1;
     }
     false
 }
@@ -52,10 +51,5 @@ fn miscounted(op: Operation, places: usize, sizes: usize, n: usize) -> bool
 fn is_each(op: Operation) -> bool
     ensures { result ≡ is_each op }
 {
-    match op {
-        Operation::Set(_) => false,
-        Operation::SetEach => true,
-        Operation::Remove => false,
-        Operation::Compare(_, _) => false,
-    }
+    matches!(op, Operation::SetEach)
 }

@@ -2,36 +2,26 @@
 #![tactic(auto)]
 
 ghost use Rattle.std.specs.Prelude.{◌≤◌};
-ghost use Rattle.model.specs.Refuse.{call};
+ghost use Rattle.model.specs.Answer.{code};
+ghost use Rattle.model.specs.Refuse.{called};
 ghost use Rattle.model.specs.Demands.{ReferenceFits, OperationFits};
 ghost use Rattle.index_refuse.specs.Refusals.{BatchRefused};
 
 mod call; // 3 to 5, which look at the call alone
 mod room; // 6 and 7, which look at the tree
 
-use call::call_refusal;
+use call::check_call;
 pub use call::descends;
-use model::{Action, Operation, Reference, Settings};
-use room::tree_refusal;
+use model::{Action, Batch, Operation, Reference, Refusal, Settings};
+use room::check_tree;
 
-// The first number of the table that applies to a batch on an index of this height with so many unused nodes; 0 where none does.
-pub fn batch_refusal(
-    st: Settings,
-    height: usize,
-    unused: usize,
-    keys: &[u64],
-    places: &[u64],
-    sizes: &[u32],
-    op: Operation,
-) -> u32
+// Whether a batch is taken by an index of this height with so many unused nodes; if not, the first refusal of the table that applies.
+pub fn check_batch(st: Settings, height: usize, unused: usize, batch: &Batch) -> Result<(), Refusal>
     requires { st.order ≤ 32 }
-    ensures { BatchRefused st height unused (call op places.now sizes.now keys.now) result }
+    ensures { BatchRefused st height unused (called batch.now) (code result) }
 {
-    let n = call_refusal(st, keys, places, sizes, op);
-    if n != 0 {
-        return n;
-    }
-    tree_refusal(height, unused, keys.len(), op)
+    check_call(st, batch)?;
+    check_tree(height, unused, batch.keys.len(), batch.operation)
 }
 
 // What an operation carries are numbers of their types. Nothing is done here: it is matched for what its numbers then promise.

@@ -1,26 +1,27 @@
 // The refusals that look at the tree.
 ghost use Rattle.std.specs.Prelude.{◌≡◌, ◌≤◌};
+ghost use Rattle.model.specs.Answer.{code};
 ghost use Rattle.model.specs.Refuse as Model;
 ghost use Rattle.index_refuse.specs.Refusals.{TreeRefused, exempts};
 
-use model::Operation;
+use model::{Operation, Refusal};
 
-// The first of 6 and 7 that applies to a batch of `n` keys on an index of this height with so many unused nodes; 0 where none does.
+// The first of the tree's refusals that applies to a batch of `n` keys on an index of this height with so many unused nodes.
 #[tactic(auto, using(crate::proofs::Refuses::deep_6))]
-pub fn tree_refusal(height: usize, unused: usize, n: usize, op: Operation) -> u32
+pub fn check_tree(height: usize, unused: usize, n: usize, op: Operation) -> Result<(), Refusal>
     requires { n ≤ 32 }
-    ensures { TreeRefused height unused op n result }
+    ensures { TreeRefused height unused op n (code result) }
 {
     if exempt(op, n) {
-        return 0;
+        return Ok(());
     }
     if 7 <= height {
-        return 6;
+        return Err(Refusal::TooHigh);
     }
     if unused < needed(n, height + 1) {
-        return 7;
+        return Err(Refusal::TooFewUnused);
     }
-    0
+    Ok(())
 }
 
 // Whether neither height nor unused nodes matter: a batch of no keys is done, and a Remove takes no node.

@@ -14,8 +14,7 @@ use lib.Seq.{drop-cons}
 use lib.Dec.{ltb, eqb}
 use borrow.Author.Tests.{ltb-true, ltb-false, eqb-true}
 use Rattle.slots_raw.specs.declared.Row.{Row}
-use Rattle.slots_find.specs.declared.Found.{Found}
-use Rattle.slots_find.specs.declared.Found.TheVariants.{At, Before}
+use Rattle.std.specs.Prelude.{Result, Ok, Err}
 use Rattle.slots_raw.specs.Slots.{blank}
 use Rattle.slots.specs.Nodes.{nodes, rows_at}
 use Rattle.slots.specs.Nodes as S
@@ -141,12 +140,12 @@ module _ (st : Settings) (W : List ℕ) (key : ℕ) where
 
 -- WHAT A SEARCH OF THE LEAF FINDS is what is listed
 
-pub found_inside : (key : ℕ) (rs : List Row) (r : Found) (i : ℕ) → Sought rs key r → r ≡ At i → i < length rs
+pub found_inside : (key : ℕ) (rs : List Row) (r : Result ℕ ℕ) (i : ℕ) → Sought rs key r → r ≡ Ok i → i < length rs
 found_inside key rs r i q e = subst (Within rs) e q.within
 
-abbrev list_found : List Row → Found → List Entry
-list_found rs (At i) = entry_of (get_or rs i blank) ∷ []
-list_found rs (Before i) = []
+abbrev list_found : List Row → Result ℕ ℕ → List Entry
+list_found rs (Ok i) = entry_of (get_or rs i blank) ∷ []
+list_found rs (Err i) = []
 
 entry_is : (k : ℕ) (r : Row) (t : Bool) → eqb r.key k ≡ t
     → present k (cond t (O.some (record { place = r.body; size = r.size })) O.none) ≡ cond t (entry_of r ∷ []) []
@@ -159,20 +158,20 @@ present_found k rs = ap (λ (es : List Entry). present k (first k es)) (entries_
   where
     hit : (u : Bool) → eqb (key_at rs (below k rs)) k ≡ u
         → present k (cond u (O.some (record { place = (get_or rs (below k rs) blank).body; size = (get_or rs (below k rs) blank).size })) O.none)
-        ≡ list_found rs (pick u (At (below k rs)) (Before (below k rs)))
+        ≡ list_found rs (pick u (Ok (below k rs)) (Err (below k rs)))
     hit true e = entry_is k (get_or rs (below k rs) blank) true e
     hit false e = refl
 
     by : (t : Bool) → ltb (below k rs) (length rs) ≡ t
         → present k (first k (map entry_of (drop (below k rs) rs)))
-        ≡ list_found rs (pick t (pick (eqb (key_at rs (below k rs)) k) (At (below k rs)) (Before (below k rs))) (Before (below k rs)))
+        ≡ list_found rs (pick t (pick (eqb (key_at rs (below k rs)) k) (Ok (below k rs)) (Err (below k rs))) (Err (below k rs)))
     by true e =
         ap (λ (l : List Row). present k (first k (map entry_of l))) (drop-cons rs (below k rs) blank (ltb-true (below k rs) (length rs) e))
         ∙ hit (eqb (key_at rs (below k rs)) k) refl
     by false e = ap (λ (l : List Row). present k (first k (map entry_of l))) (drop_of_length-le rs (ltb-false (below k rs) (length rs) e))
 
 module _ (st : Settings) (W : List ℕ) (height key leaf : ℕ) (lead : Led st W height key st.root leaf) where
-  pub found_listed : (r f : Found) → Sought (rows_at st W leaf) key r → r ≡ f
+  pub found_listed : (r f : Result ℕ ℕ) → Sought (rows_at st W leaf) key r → r ≡ f
       → list_found (rows_at st W leaf) f ≡ present key (held key (entries (suc height) (tree_at (nodes st W) height st.root)))
   found_listed r f q e =
       ap (list_found (rows_at st W leaf)) (sym e ∙ q.is) ∙ sym (present_found key (rows_at st W leaf))

@@ -12,7 +12,6 @@ ghost use Rattle.look.specs.Promises.{ToDescend, Led};
 
 use look_output::{Listed, list_row};
 use model::Settings;
-use slots_find::Found;
 use tree_node::{child_at, child_for};
 
 // Lists the entries of the keys that are present, key after key, until the output is full and another is due.
@@ -34,11 +33,11 @@ pub fn get_keys(
         written: 0,
         more: false,
     };
-    let mut k = 0;
-    while k < keys.len() && !l.more {
-        let key = keys[k];
-        l = get_key(pool, st, height, key, out, room, l);
-        k += 1;
+    for key in keys {
+        if l.more {
+            break;
+        }
+        l = get_key(pool, st, height, *key, out, room, l);
     }
     l
 }
@@ -61,13 +60,12 @@ fn get_key(
         (page out.old l) }
 {
     let leaf = leaf_for(pool, st, height, key);
-    let sought = slots_find::search(pool, st, leaf, key);
-    match sought {
-        Found::At(i) => {
+    match slots_find::search(pool, st, leaf, key) {
+        Ok(i) => {
             let row = slots::row_at(pool, st, leaf, i);
             list_row(out, room, l, row)
         }
-        Found::Before(_) => l,
+        Err(_) => l,
     }
 }
 
@@ -77,11 +75,9 @@ fn leaf_for(pool: &[u8], st: Settings, height: usize, key: u64) -> usize
     ensures { Led st (words pool.now) height key st.root result }
 {
     let mut s = st.root;
-    let mut h = height;
-    while 0 < h {
+    for _h in (0..height).rev() {
         let i = child_for(pool, st, s, 0, key);
         s = child_at(pool, st, s, i);
-        h -= 1;
     }
     s
 }

@@ -62,15 +62,16 @@ fn scan_children(
         more: false,
         opened: w.opened + 1,
     };
-    let mut j = 0;
-    while j < n && !at.more {
+    for j in 0..n {
+        if at.more {
+            break;
+        }
         let i = place_in(q, n, j);
         let row = slots::row_at(pool, st, s, i);
         at = scan_child(pool, st, below, row, q, out, room, at);
         if !goes_on(q, row.key) {
             return at;
         }
-        j += 1;
     }
     at
 }
@@ -118,12 +119,13 @@ fn scan_leaf(
         written: w.written,
         more: false,
     };
-    let mut j = 0;
-    while j < n && !l.more {
+    for j in 0..n {
+        if l.more {
+            break;
+        }
         let i = place_in(q, n, j);
         let row = slots::row_at(pool, st, s, i);
         l = list_due(q, out, room, l, row);
-        j += 1;
     }
     Scanned {
         written: l.written,

@@ -1,6 +1,7 @@
 -- The laws of specs/, and in Demands what document 01 demands.
 pub mod Lists
 pub mod Answers
+pub mod Refusals
 pub mod Layers
 pub mod Plain
 pub mod Trees

@@ -2,6 +2,7 @@
 use Rattle.std.specs.Prelude.{Bool, true, false, ◌&&◌, ◌||◌, not, cond, List, [], ◌∷◌, ℕ, ◌+◌, ◌*◌, max, length, leb, ltb, eqb}
 use Rattle.model.specs.declared.Settings.{Settings}
 use Rattle.model.specs.declared.Operation.{Operation}
+use Rattle.model.specs.declared.Batch.{Batch}
 use Rattle.model.specs.declared.Operation.TheVariants as Op
 use Rattle.model.specs.Tree.{Index, depth}
 use Rattle.model.specs.Plain.{Task, references, tasks_for}
@@ -18,6 +19,10 @@ pub record Call : Type 0 where
 
 abbrev pub call : Operation → List ℕ → List ℕ → List ℕ → Call
 call op ps zs ks = record { operation = op; places = ps; sizes = zs; keys = ks }
+
+-- the call that a batch is
+abbrev pub called : Batch → Call
+called b = call b.operation b.places.now b.sizes.now b.keys.now
 
 abbrev pub tasks_of : Call → List Task
 tasks_of c = tasks_for c.operation (references c.places c.sizes) c.keys

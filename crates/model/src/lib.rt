@@ -3,8 +3,11 @@
 // What they mean stands in specs/: a reader with document 01 in hand finds each of its rules there, one file to an idea.
 #![tactic(auto)]
 
+ghost use Rattle.std.specs.Prelude.{◌≡◌};
+ghost use Rattle.model.specs.Answer.{number};
+
 // The limits of a tree: how many entries a node may hold, and below how many it is joined.
-#[derive(Clone, Copy)]
+#[derive(Clone, Copy, PartialEq, Eq)]
 pub struct Limits {
     pub order: usize,
     pub minimum: usize,
@@ -43,27 +46,37 @@ pub struct Entry {
     pub size: u32,
 }
 
-// What a Compare expects to find under a key.
+// What a Compare expects to find under a key. (No Option: `Compare(None, None)` would not say which of the two is which.)
 #[derive(Clone, Copy)]
 pub enum Expectation {
     Absent,
     Holds(Reference),
 }
 
-// What a Compare does where its expectation is met.
+// What a Compare does where its expectation is met. (No Option, for the same reason: to remove is no lack of a value.)
 #[derive(Clone, Copy)]
 pub enum Action {
     Set(Reference),
     Remove,
 }
 
-// What a batch does to each of its keys. The references of a SetEach are lent beside it, one a key.
+// What a batch does to each of its keys. The references of a SetEach are lent with the batch, one a key.
 #[derive(Clone, Copy)]
 pub enum Operation {
     Set(Reference),
     SetEach,
     Remove,
     Compare(Expectation, Action),
+}
+
+// A batch as it is called: what it does to each of its keys, the keys, and the references that are lent with it, a place and a size a key. Only a SetEach
+// reads these.
+#[derive(Clone, Copy)]
+pub struct Batch<'a> {
+    pub operation: Operation,
+    pub keys: &'a [u64],
+    pub places: &'a [u64],
+    pub sizes: &'a [u32],
 }
 
 // What is asked of one key: an action, always or only where an expectation is met.
@@ -102,7 +115,7 @@ pub struct Counts {
 }
 
 // The number of live entries, of dead ones, and the sum of the sizes of the live ones.
-#[derive(Clone, Copy)]
+#[derive(Clone, Copy, PartialEq, Eq)]
 pub struct Totals {
     pub live: u32,
     pub dead: u32,
@@ -123,7 +136,7 @@ pub enum Direction {
     Down,
 }
 
-// Which sizes a scan lists.
+// Which sizes a scan lists. (No Option: beside two bounds a `None` would not say what it lets pass.)
 #[derive(Clone, Copy)]
 pub enum Sift {
     All,
@@ -137,4 +150,57 @@ pub struct Request {
     pub end: Bound,
     pub direction: Direction,
     pub sift: Sift,
+}
+
+// Why a call is refused: the table of document 01. What is lent to a refused call stays as it was.
+#[derive(Clone, Copy, PartialEq, Eq)]
+pub enum Refusal {
+    WrongSettings,
+    Unsound,
+    TooManyKeys,
+    ReferencesMiscounted,
+    KeysDescend,
+    TooHigh,
+    TooFewUnused,
+    EmptyLine,
+    NotHex,
+    PartOfAnEntry,
+    TooManyEntries,
+    KeysNotAscending,
+    UnknownHeader,
+    NoSuchNode,
+    MalformedLine,
+    LineTooShort,
+    SettingsDiffer,
+    TargetNotNew,
+    NoSuchTree,
+}
+
+// The number that the table gives it.
+impl From<Refusal> for u32 {
+    ghost from_gives = { λ r n. n ≡ number r };
+
+    fn from(r: Refusal) -> u32 {
+        match r {
+            Refusal::WrongSettings => 1,
+            Refusal::Unsound => 2,
+            Refusal::TooManyKeys => 3,
+            Refusal::ReferencesMiscounted => 4,
+            Refusal::KeysDescend => 5,
+            Refusal::TooHigh => 6,
+            Refusal::TooFewUnused => 7,
+            Refusal::EmptyLine => 8,
+            Refusal::NotHex => 9,
+            Refusal::PartOfAnEntry => 10,
+            Refusal::TooManyEntries => 11,
+            Refusal::KeysNotAscending => 12,
+            Refusal::UnknownHeader => 13,
+            Refusal::NoSuchNode => 14,
+            Refusal::MalformedLine => 15,
+            Refusal::LineTooShort => 16,
+            Refusal::SettingsDiffer => 17,
+            Refusal::TargetNotNew => 18,
+            Refusal::NoSuchTree => 19,
+        }
+    }
 }

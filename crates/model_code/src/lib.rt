@@ -3,7 +3,7 @@
 // They stand apart from the model because a definition that is changed is then proved without them.
 #![tactic(auto)]
 
-ghost use Rattle.std.specs.Prelude.{◌≡◌, min, max};
+ghost use Rattle.std.specs.Prelude.{◌≡◌};
 ghost use Rattle.model.specs.Sound as Sound;
 ghost use Rattle.model.specs.Tree.{is_mark, no_totals};
 ghost use Rattle.model.specs.Plain.{no_counts};
@@ -49,14 +49,7 @@ pub fn rows_for(given: PoolSettings) -> usize
 {
     let first = given.first;
     let second = given.second;
-    2 * greater(first.order, second.order)
-}
-
-// The larger of two numbers.
-fn greater(a: usize, b: usize) -> usize
-    ensures { result ≡ max a b }
-{
-    if a < b { b } else { a }
+    2 * first.order.max(second.order)
 }
 
 pub fn no_counts() -> Counts
@@ -82,13 +75,6 @@ pub fn half(n: usize) -> usize
     ensures { result ≡ share.half n }
 {
     n / 2 + n % 2
-}
-
-// The smaller of two numbers.
-pub fn lesser(a: usize, b: usize) -> usize
-    ensures { result ≡ min a b }
-{
-    if a < b { a } else { b }
 }
 
 // The totals of no entries.
@@ -144,10 +130,5 @@ pub fn least_size(s: Sift) -> u32
 pub fn is_remove(o: Operation) -> bool
     ensures { result ≡ is_remove o }
 {
-    match o {
-        Operation::Set(_) => false,
-        Operation::SetEach => false,
-        Operation::Remove => true,
-        Operation::Compare(_, _) => false,
-    }
+    matches!(o, Operation::Remove)
 }

@@ -10,7 +10,6 @@ ghost use Rattle.pack.specs.Build.{entries_in, tree_for, bare, hung};
 ghost use Rattle.pack.specs.Promises.{ToBuild, ToFill, ToHang, Built, Filled};
 
 use model::Settings;
-use model_code::lesser;
 use pack_plan::capacity;
 use slots_copy::append_rows;
 use tree_node::weigh;
@@ -77,7 +76,7 @@ fn build_children(
             slot: next,
             next: next + 1,
             from: piece.from + taken,
-            count: lesser(most, piece.count - taken),
+            count: most.min(piece.count - taken),
         };
         next = build(pool, st, source, known, child);
         hang(pool, st, below, piece.slot, i, child.slot);
@@ -113,7 +112,7 @@ fn fill_leaf(pool: &mut [u8], st: Settings, source: &[u8], known: Source, piece:
             piece.from + taken,
         );
         let side_by_side = slots::count(source, theirs, spot.leaf) - spot.row;
-        let n = lesser(side_by_side, piece.count - taken);
+        let n = side_by_side.min(piece.count - taken);
         append_rows(pool, st, piece.slot, source, theirs, spot.leaf, spot.row, n);
         taken += n;
     }

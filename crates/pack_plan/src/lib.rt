@@ -5,18 +5,14 @@ ghost use Rattle.std.specs.Prelude.{◌≡◌, ◌≤◌};
 ghost use Rattle.model_pack.specs.Pack as pack;
 ghost use Rattle.pack_plan.specs.Promises.{ToMeasure, ToCount, Counted};
 
-use model_code::lesser;
-
 // How many entries a tree of this order and height can hold.
 pub fn capacity(order: usize, height: usize) -> usize
     requires { ToMeasure order height }
     ensures { result ≡ pack.capacity order height }
 {
     let mut most = order;
-    let mut h = 0;
-    while h < height {
+    for _h in 0..height {
         most = order * most;
-        h += 1;
     }
     most
 }
@@ -27,12 +23,13 @@ pub fn height_for(order: usize, n: usize) -> usize
     ensures { result ≡ pack.height_for order n }
 {
     let mut most = order;
-    let mut height = 0;
-    while height < 7 && most < n {
+    for height in 0..7 {
+        if n <= most {
+            return height;
+        }
         most = order * most;
-        height += 1;
     }
-    height
+    7
 }
 
 // How many nodes the packed tree of `n` entries has: a dry run of its building.
@@ -47,7 +44,7 @@ pub fn nodes_for(order: usize, height: usize, n: usize) -> usize
     let most = capacity(order, height - 1);
     let mut left = n;
     while left > 0 {
-        let piece = lesser(most, left);
+        let piece = most.min(left);
         nodes += nodes_for(order, height - 1, piece);
         left -= piece;
     }

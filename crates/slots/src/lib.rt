@@ -14,7 +14,8 @@ use model::Settings;
 use slots_raw::{Row, raw_count, raw_kind, raw_row};
 use slots_write::{raw_clear, raw_move, raw_put, raw_put_count, raw_put_kind};
 
-// The kinds of a node: a slot that holds none, a leaf, an interior node.
+// The kinds of a node: a slot that holds none, a leaf, an interior node. (Numbers and no enum: a kind is a word of the pool, where any number may
+// stand, and the nodes of another tree have kinds that this one only copies; the equations of `Nodes` are of words.)
 pub const UNUSED: u64 = 0;
 
 pub const LEAF: u64 = 1;

@@ -8,7 +8,7 @@ use lib.ListN.{length}
 use borrow.Author.Tests.{lt-ltb, le-ltb, eq-eqb, ne_eqb}
 use Rattle.model.specs.Lists.{All, one, Ordered, cons}
 use Rattle.slots_raw.specs.declared.Row.{Row}
-use Rattle.slots_find.specs.declared.Found.TheVariants.{At, Before}
+use Rattle.std.specs.Prelude.{Ok, Err}
 use Rattle.slots_find.specs.Search.{key_at, Ascending, pick, below, find_row}
 
 -- ---- rows that can be searched
@@ -38,14 +38,14 @@ below_is k (r ∷ l) (suc i) h b a =
 -- ---- the answers of a walk that has found each key before row i below k
 
 module _ (k : ℕ) (l : List Row) (i : ℕ) (passed : (j : ℕ) → j < i → key_at l j < k) where
-  pub found_at : i < length l → key_at l i ≡ k → At i ≡ find_row k l
+  pub found_at : i < length l → key_at l i ≡ k → Ok i ≡ find_row k l
   unfolding find_row pick
   found_at h e = rw (below_is k l i (omega arith) passed (λ _. omega arith), lt-ltb i (length l) h, eq-eqb (key_at l i) k e)
 
-  pub found_not : i < length l → k < key_at l i → Before i ≡ find_row k l
+  pub found_not : i < length l → k < key_at l i → Err i ≡ find_row k l
   unfolding find_row pick
   found_not h g = rw (below_is k l i (omega arith) passed (λ _. omega arith), lt-ltb i (length l) h, ne_eqb (key_at l i) k (λ e. absurd (omega arith)))
 
-  pub found_end : i ≡ length l → Before i ≡ find_row k l
+  pub found_end : i ≡ length l → Err i ≡ find_row k l
   unfolding find_row pick
   found_end e = rw (below_is k l i (omega arith) passed (λ h. absurd (omega arith)), le-ltb i (length l) (omega arith))

@@ -3,8 +3,7 @@ use Rattle.std.specs.Prelude.{ℕ, ◌≤◌, ◌<◌, ◌≡◌, ◌≢◌, Lis
 use Rattle.model.specs.declared.Settings.{Settings}
 use Rattle.slots_raw.specs.declared.Row.{Row}
 use Rattle.slots.specs.Nodes.{unused_kind, Node, Held, nth, rows_at}
-use Rattle.slots_find.specs.declared.Found.{Found}
-use Rattle.slots_find.specs.declared.Found.TheVariants.{At, Before}
+use Rattle.std.specs.Prelude.{Result, Ok, Err}
 use Rattle.slots_find.specs.Search.{Ascending, find_row}
 
 -- ---- a key
@@ -16,12 +15,12 @@ pub record ToSearch (st : Settings) (W : List ℕ) (s : ℕ) : Type 0 where
   pub keys : Ascending (rows_at st W s)
 
 -- a place among l's rows, or after them
-abbrev pub Within : List Row → Found → Type 0
-Within l (At i) = i < length l
-Within l (Before i) = i ≤ length l
+abbrev pub Within : List Row → Result ℕ ℕ → Type 0
+Within l (Ok i) = i < length l
+Within l (Err i) = i ≤ length l
 
 -- r is where key k stands among l's rows
-pub record Sought (l : List Row) (k : ℕ) (r : Found) : Type 0 where
+pub record Sought (l : List Row) (k : ℕ) (r : Result ℕ ℕ) : Type 0 where
   pub is : r ≡ find_row k l
   pub within : Within l r
 

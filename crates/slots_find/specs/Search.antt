@@ -2,8 +2,7 @@
 use Rattle.std.specs.Prelude.{ℕ, suc, ◌<◌, Bool, true, false, List, [], ◌∷◌, length, get_or, ltb, eqb}
 use Rattle.slots_raw.specs.declared.Row.{Row}
 use Rattle.slots_raw.specs.Slots.{blank}
-use Rattle.slots_find.specs.declared.Found.{Found}
-use Rattle.slots_find.specs.declared.Found.TheVariants.{At, Before}
+use Rattle.std.specs.Prelude.{Result, Ok, Err}
 
 -- the key of row i
 abbrev pub key_at : List Row → ℕ → ℕ
@@ -25,7 +24,7 @@ below k [] = 0
 below k (r ∷ l) = pick (ltb r.key k) (suc (below k l)) 0
 
 -- where key k stands, or before which row it would
-unfoldable pub find_row : ℕ → List Row → Found
+unfoldable pub find_row : ℕ → List Row → Result ℕ ℕ
 unfolding pick
 find_row k l =
-    pick (ltb (below k l) (length l)) (pick (eqb (key_at l (below k l)) k) (At (below k l)) (Before (below k l))) (Before (below k l))
+    pick (ltb (below k l) (length l)) (pick (eqb (key_at l (below k l)) k) (Ok (below k l)) (Err (below k l))) (Err (below k l))

@@ -11,31 +11,23 @@ ghost use Rattle.slots_find.specs.Promises.{ToSearch, Sought, Below, Lowest};
 use model::Settings;
 use slots::{UNUSED, count, kind, row_at};
 
-// Where a key stands among the rows of a node, or before which row it would.
-#[derive(Clone, Copy)]
-pub enum Found {
-    At(usize),
-    Before(usize),
-}
-
-// Looks for `key` in node `s`, whose keys ascend: row by row from the front, up to the first key that is not below it.
-pub fn search(pool: &[u8], st: Settings, s: usize, key: u64) -> Found
+// Looks for `key` in node `s`, whose keys ascend: row by row from the front, up to the first key that is not below it. As a slice's `binary_search`
+// answers: the row where it stands, or else the row before which it would.
+pub fn search(pool: &[u8], st: Settings, s: usize, key: u64) -> Result<usize, usize>
     requires { ToSearch st (words pool.now) s }
     ensures { Sought (rows_at st (words pool.now) s) key result }
 {
     let n = count(pool, st, s);
-    let mut i = 0;
-    while i < n {
+    for i in 0..n {
         let here = key_at(pool, st, s, i);
         if key <= here {
             if key == here {
-                return Found::At(i);
+                return Ok(i);
             }
-            return Found::Before(i);
+            return Err(i);
         }
-        i += 1;
     }
-    Found::Before(n)
+    Err(n)
 }
 
 // The key of row `i` of node `s`.
@@ -56,12 +48,10 @@ pub fn lowest_unused(pool: &[u8], st: Settings, from: usize) -> usize
     ensures { Lowest (nodes st (words pool.now)) result }
 {
     let nodes = st.nodes;
-    let mut s = from;
-    while s < nodes {
+    for s in from..nodes {
         if kind(pool, st, s) == UNUSED {
             return s;
         }
-        s += 1;
     }
-    s
+    nodes
 }

@@ -1,4 +1,5 @@
 -- Soundness is decidable: each part of it is, and the parts are those that the survey tests. Assumes nothing.
+use Rattle.std.specs.Prelude.{None}
 use mathlib.Core.Path.{◌≡◌, refl, sym}
 use mathlib.Core.Bool.{Bool, true, false, true≢false}
 use mathlib.Core.List.{List, [], ◌∷◌}
@@ -27,12 +28,12 @@ use Rattle.model.proofs.Lists.{all_head, all_tail, all_every}
 use Rattle.tree.specs.Bridge.{child_of, child_totals, tree_at}
 use Rattle.tree.specs.Pool.{pool_len, given_in, height_at, settings_in, Kinds, EachChild, Separates, Totalled, SoundPool}
 use Rattle.tree.proofs.Sums.{totals_discrete}
-use Rattle.tree.proofs.Pools.{exact_shape}
 use Rattle.survey.specs.Promises.{Headed, Idle}
 use Rattle.survey_node.specs.Promises.{Tail, Right, SoundTree}
 use Rattle.survey_node.specs.Parts.{least_root}
 use Rattle.survey_node.proofs.Heads.{tail_told}
-use Rattle.survey.proofs.Verdicts.{unmet, right_passable, passable_right, Counted, sound_pool, pool_headed, pool_idle, pool_tree, pool_counted}
+use Rattle.survey.proofs.Steps.{shaped}
+use Rattle.survey.proofs.Verdicts.{right_passable, passable_right, Counted, sound_pool, pool_headed, pool_idle, pool_tree, pool_counted}
 
 -- OF DECISIONS
 
@@ -119,7 +120,7 @@ module _ (st : Settings) (W : List ℕ) (sh : Shape st W) where
       by f s (no ge) = λ q. past_raw st W s ge
 
   -- a tree, where no key was met before it
-  dec_right : (h s least left : ℕ) → Dec (Right st W h s least unmet left)
+  dec_right : (h s least left : ℕ) → Dec (Right st W h s least None left)
   dec_right h s least left =
       map_dec
       (λ p. record {
@@ -128,7 +129,7 @@ module _ (st : Settings) (W : List ℕ) (sh : Shape st W) where
         few = p.1.1.0;
         whole = p.1.1.1.0;
         sorted = p.1.1.1.1.0;
-        beyond = all_every (entries (suc h) (tree_at (nodes st W) h s)) (λ e q. absurd (true≢false (sym q)));
+        beyond = all_every (entries (suc h) (tree_at (nodes st W) h s)) (λ e. tt);
         fit = p.1.1.1.1.1.0;
         separators = p.1.1.1.1.1.1.0;
         totals = p.1.1.1.1.1.1.1.0;
@@ -165,7 +166,7 @@ module _ (st : Settings) (W : List ℕ) (sh : Shape st W) where
   dec_tree : Dec (SoundTree st W)
   dec_tree = by (dec_le high 7) (dec_right high st.root (least_root high) many)
     where
-      by : Dec (high ≤ 7) → Dec (Right st W high st.root (least_root high) unmet many) → Dec (SoundTree st W)
+      by : Dec (high ≤ 7) → Dec (Right st W high st.root (least_root high) None many) → Dec (SoundTree st W)
       by (yes le) (yes g) = yes (right_passable st W many le g).tree
       by (no gt) d = no (λ t. gt (omega (arith, t.sound.shallow)))
       by (yes le) (no wrong) = no (λ t. wrong (passable_right st W many (record { tree = t; most = omega arith })))
@@ -201,6 +202,6 @@ sound_decided l = by (dec_headed l)
     by : Dec (Headed l) → Dec (SoundPool l)
     by (no wrong) = no (λ s. wrong (pool_headed l s))
     by (yes h) =
-        let sh : (i : ℕ) → Shape (settings_in l i) (words l) = λ i. exact_shape (given_in l) i l h.settings h.exact in
-        rest h (dec_all_idle (settings_in l 0) (words l) (sh 0)) (dec_tree (settings_in l 0) (words l) (sh 0)) (dec_tree (settings_in l 1) (words l) (sh 1))
+        rest h (dec_all_idle (settings_in l 0) (words l) (shaped h 0)) (dec_tree (settings_in l 0) (words l) (shaped h 0))
+        (dec_tree (settings_in l 1) (words l) (shaped h 1))
         (ℕ_discrete _ _)

@@ -1,7 +1,8 @@
 -- The pass over the slots: where it stands after some of them. Assumes nothing.
-use mathlib.Core.Path.{◌≡◌, refl, sym, ap, ◌∙◌, subst}
+use mathlib.Core.Path.{◌≡◌, sym, ap, ◌∙◌, subst}
 use mathlib.Core.Logic.{◌≢◌}
-use mathlib.Core.Bool.{true}
+use Rattle.std.specs.Prelude.{Some, None}
+use Rattle.std.proofs.lemmas.Option.{none-some, same_Some}
 use mathlib.Core.List.{List, ◌∷◌}
 use Prim.Native.Nat.{ℕ, suc, ◌+◌, ◌-◌, ◌≤◌, ◌<◌}
 use native.Mathlib.Omega.{arith}
@@ -15,7 +16,9 @@ use Rattle.slots.specs.Nodes as S
 use Rattle.slots.proofs.Nodes.{kind_node, length_nodes}
 use Rattle.slots_pool.proofs.Canons.{past_raw}
 use Rattle.model.specs.declared.Settings.{Settings}
+use Rattle.model.proofs.Answers.{tells_no, tells_yes}
 use Rattle.tree.specs.Bridge.{unused_from}
+use Rattle.tree_spare.specs.Spared.{Spared}
 use Rattle.survey.specs.Promises.{Idle, SlotsTold}
 
 -- where the pass stands when it has come down to slot s
@@ -88,21 +91,19 @@ module _ (st : Settings) (W : List ℕ) where
         by kind t le lt (no ne) = g.before t (omega arith) lt
 
   -- at slot 0 every slot has been seen
-  pub swept_end : (free least s : ℕ) → s ≤ 0 → Swept st W free least s
-      → SlotsTold st W (record { ok = true; spare = record { low = least; unused = free } })
+  pub swept_end : (free least s : ℕ) → s ≤ 0 → Swept st W free least s → SlotsTold st W (Some (record { low = least; unused = free }))
   swept_end free least s z g =
       let e : s ≡ 0 = omega arith in
+      let spared : Spared (nodes st W) (record { low = least; unused = free }) =
       record {
-        ok = record { holds = λ t. each; told = λ t. refl };
-        spared = λ t. record {
-          lowest = record {
-            within = omega (arith, length_nodes st W, g.low);
-            before = λ t lt. g.before t (omega arith) lt;
-            here = λ lt. g.here (omega (arith, length_nodes st W));
-          };
-          count = g.unused ∙ ap (λ (j : ℕ). length (unused_from j (drop j (nodes st W)))) e;
+        lowest = record {
+          within = omega (arith, length_nodes st W, g.low);
+          before = λ t lt. g.before t (omega arith) lt;
+          here = λ lt. g.here (omega (arith, length_nodes st W));
         };
-      }
+        count = g.unused ∙ ap (λ (j : ℕ). length (unused_from j (drop j (nodes st W)))) e;
+      } in
+      record { idle = tells_yes each; spared = λ x q. subst (Spared (nodes st W)) (same_Some _ x q) spared }
     where
       each : (t : ℕ) → Idle st W t
       each t = by (dec_lt t st.nodes)
@@ -110,3 +111,7 @@ module _ (st : Settings) (W : List ℕ) where
           by : Dec (t < st.nodes) → Idle st W t
           by (yes lt) = g.idle t (omega arith) lt
           by (no ge) = λ q. past_raw st W t ge
+
+  -- at an unused slot that is not all zero
+  pub swept_not : (s : ℕ) → (Idle st W s → ⊥) → SlotsTold st W None
+  swept_not s f = record { idle = tells_no (λ z. f (z s)); spared = λ x q. absurd (none-some x q) }

@@ -1,7 +1,9 @@
 -- What the walk over a tree tells; that two trees which it passes, with as many nodes as are in use, are those of a sound pool; and what the survey makes
 -- of it. Assumes nothing.
 use mathlib.Core.Path.{◌≡◌, refl, sym, ap, ◌∙◌, subst}
-use mathlib.Core.Bool.{Bool, true, false, cond, true≢false}
+use Rattle.std.specs.Prelude.{Option, Some, None}
+use Rattle.std.proofs.lemmas.Option.{none-some, same_Some}
+use mathlib.Core.Bool.{cond}
 use mathlib.Core.List.{List, ◌++◌}
 use Prim.Native.Nat.{ℕ, zero, suc, ◌+◌, ◌≤◌, ◌<◌}
 use native.Mathlib.Omega.{arith}
@@ -21,7 +23,7 @@ use Rattle.model.specs.declared.Settings.{Settings}
 use Rattle.model.specs.Lists.{times}
 use Rattle.model.specs.Tree.{Tree, len, slots, entries_of, slots_of}
 use Rattle.model.specs.Sound.{handed, Whole, Rooted, Once}
-use Rattle.model.proofs.Answers.{tells_unique}
+use Rattle.model.proofs.Answers.{tells_no, tells_yes, told_no}
 use Rattle.model.proofs.Lists.{all_every, times_append}
 use Rattle.model.proofs.Numbers.{times_all}
 use Rattle.model.proofs.Trees.{once_count, slots_leaf, root_few}
@@ -33,18 +35,15 @@ use Rattle.tree.proofs.Unused.{used_in, used_none, unused_past, unused_once}
 use Rattle.tree.proofs.Pools.{tree_sees, sees_unused, sound_held}
 use Rattle.survey.specs.declared.Findings.{Findings}
 use Rattle.survey_node.specs.declared.Part.{Part}
-use Rattle.survey.specs.Promises.{Surveyed, Headed, unsound, Idle}
+use Rattle.survey.specs.Promises.{Found, Surveyed, Headed, Idle}
 use Rattle.tree_spare.proofs.Spares.{spared_one}
-use Rattle.survey_node.specs.Parts.{Last, last, least_root}
+use Rattle.survey_node.specs.Parts.{least_root}
 use Rattle.survey_node.specs.Promises.{There, Tail, Right, Checked, SoundTree, Passable, Walked}
 use Rattle.survey_node.proofs.Rows.{kinds_there}
 use Rattle.survey.proofs.Places.{hit_most, each_once}
 use Rattle.survey.proofs.Apart.{slots_once}
 
 -- THE ROOT: the walk has met no key yet, and the root has its own least number of items
-
-abbrev pub unmet : Last
-unmet = last false 0
 
 root_to : (st : Settings) (h : ℕ) (t : Tree h) → least_root h ≤ len t → len t ≤ st.order → Rooted st h t
 root_to st zero t some few = few
@@ -68,7 +67,7 @@ module _ (st : Settings) (W : List ℕ) where
   reached = slots_of (index_in st.root (nodes st W))
 
   module _ (left : ℕ) where
-    pub right_passable : high ≤ 7 → Right st W high st.root (least_root high) unmet left → Passable st W left
+    pub right_passable : high ≤ 7 → Right st W high st.root (least_root high) None left → Passable st W left
     right_passable le g =
         record {
           tree = record {
@@ -87,7 +86,7 @@ module _ (st : Settings) (W : List ℕ) where
           most = g.most;
         }
 
-    pub passable_right : Passable st W left → Right st W high st.root (least_root high) unmet left
+    pub passable_right : Passable st W left → Right st W high st.root (least_root high) None left
     passable_right p =
         let n : SoundNodes st (nodes st W) = p.tree.sound in
         record {
@@ -96,7 +95,7 @@ module _ (st : Settings) (W : List ℕ) where
           few = root_few st high root_tree n.rooted;
           whole = n.whole;
           sorted = n.sorted;
-          beyond = all_every (entries_of (index_in st.root (nodes st W))) (λ e q. absurd (true≢false (sym q)));
+          beyond = all_every (entries_of (index_in st.root (nodes st W))) (λ e. tt);
           fit = n.fit;
           separators = n.separators;
           totals = n.totals;
@@ -104,26 +103,25 @@ module _ (st : Settings) (W : List ℕ) where
           most = p.most;
         }
 
-    -- what the walk from the root tells
-    pub verdict : (h : ℕ) (root : Part) → h ≡ high → h ≤ 7 → Checked st W h st.root (least_root h) unmet left root → Walked st W left root
-    verdict h root edge le chk =
-        let at_high : Checked st W high st.root (least_root high) unmet left root =
-        subst (λ (g : ℕ). Checked st W g st.root (least_root g) unmet left root) edge chk in
-        record {
-          ok = record {
-            holds = λ e. right_passable (omega (arith, edge)) (at_high.ok.holds e);
-            told = λ p. at_high.ok.told (passable_right p);
-          };
-          rest = at_high.rest;
-        }
+    -- where it ends at a fault
+    pub verdict_not : (Passable st W left → ⊥) → Walked st W left None
+    verdict_not f = record { passes = tells_no f; rest = λ n e. absurd (none-some n e) }
 
-    -- where it ends before it begins
-    pub verdict_not : (r : Part) → r.ok ≡ false → (SoundTree st W → ⊥) → Walked st W left r
-    verdict_not r e f =
-        record {
-          ok = record { holds = λ t. absurd (true≢false (sym t ∙ e)); told = λ p. absurd (f p.tree) };
-          rest = λ t. absurd (true≢false (sym t ∙ e));
-        }
+    -- what the walk from the root tells
+    module _ (h : ℕ) (edge : h ≡ high) (le : h ≤ 7) where
+      at_high : (r : Option Part) → Checked st W h st.root (least_root h) None left r → Checked st W high st.root (least_root high) None left r
+      at_high r = subst (λ (g : ℕ). Checked st W g st.root (least_root g) None left r) edge
+
+      pub verdict_none : Checked st W h st.root (least_root h) None left None → Walked st W left None
+      verdict_none chk = verdict_not (λ p. told_no (at_high None chk).right refl (passable_right p))
+
+      pub verdict : (tree : Part) → Checked st W h st.root (least_root h) None left (Some tree) → Walked st W left (Some tree.left)
+      verdict tree chk =
+          let found = at_high (Some tree) chk in
+          record {
+            passes = tells_yes (right_passable (omega (arith, edge)) (found.right.holds refl));
+            rest = λ n e. subst (λ (m : ℕ). m + length reached ≡ left) (same_Some tree.left n e) (found.found tree refl).rest;
+          }
 
   pub verdict_deep : (h : ℕ) → h ≡ high → 7 < h → SoundTree st W → ⊥
   verdict_deep h e lt s = omega (arith, s.sound.shallow)
@@ -136,7 +134,7 @@ module _ (st : Settings) (W : List ℕ) where
     tree_once : (x : ℕ) → times x reached ≤ 1
     tree_once x = by high t.sound.shallow (passable_right (length reached) (record { tree = t; most = omega arith }))
       where
-        by : (h : ℕ) → suc h ≤ 8 → Right st W h st.root (least_root h) unmet (length reached) → times x (slots (suc h) (tree_at (nodes st W) h st.root)) ≤ 1
+        by : (h : ℕ) → suc h ≤ 8 → Right st W h st.root (least_root h) None (length reached) → times x (slots (suc h) (tree_at (nodes st W) h st.root)) ≤ 1
         by zero le g = omega (arith, hit_most x st.root, slots_leaf x (tree_at (nodes st W) zero st.root).items)
         by (suc h) le g =
             let whole : Whole st (suc (suc h)) (tree_at (nodes st W) (suc h) st.root) = (record { some = omega (arith, g.some); few = g.few }, g.whole) in
@@ -247,18 +245,8 @@ module _ (given : PoolSettings) (W : List ℕ) where
 
 -- THE SURVEY
 
-pub survey_not : (l : List ℕ) (r : Findings) → r ≡ unsound → (SoundPool l → ⊥) → Surveyed l r
-survey_not l r e f =
-    let off : r.sound ≡ false = ap (λ (x : Findings). x.sound) e in
-    let never : (A : Type 0) → r.sound ≡ true → A = λ A t. absurd (true≢false (sym t ∙ off)) in
-    record {
-      sound = record { holds = λ t. never _ t; told = λ s. absurd (f s) };
-      given = λ t. never _ t;
-      first = λ t. never _ t;
-      second = λ t. never _ t;
-      spared = λ t. never _ t;
-      nothing = λ t. e;
-    }
+pub survey_not : (l : List ℕ) → (SoundPool l → ⊥) → Surveyed l None
+survey_not l f = record { sound = tells_no f; found = λ x e. absurd (none-some x e) }
 
 module _ (l : List ℕ) where
   -- as many nodes are reached as are in use
@@ -304,18 +292,18 @@ module _ (l : List ℕ) where
         )
 
 -- two answers that meet the promise are one
-pub sound_told : (l : List ℕ) (q r : Findings) → Surveyed l q → Surveyed l r → q ≡ r
-sound_told l q r a b = by q.sound refl
+pub sound_told : (l : List ℕ) (q r : Option Findings) → Surveyed l q → Surveyed l r → q ≡ r
+sound_told l None None a b = refl
+sound_told l None (Some g) a b = absurd (told_no a.sound refl (b.sound.holds refl))
+sound_told l (Some f) None a b = absurd (told_no b.sound refl (a.sound.holds refl))
+sound_told l (Some f) (Some g) a b = ap Some same
   where
-    same : q.sound ≡ r.sound
-    same = tells_unique a.sound b.sound
-
-    by : (t : Bool) → q.sound ≡ t → q ≡ r
-    by true e =
-        let f : r.sound ≡ true = sym same ∙ e in
-        let given : q.given ≡ r.given = a.given e ∙ sym (b.given f) in
-        let first : q.first ≡ r.first = a.first e ∙ sym (b.first f) in
-        let second : q.second ≡ r.second = a.second e ∙ sym (b.second f) in
-        let spare : q.spare ≡ r.spare = spared_one (nodes_in l 0) q.spare r.spare (a.spared e) (b.spared f) in
-        λ j. record { sound = same j; given = given j; first = first j; second = second j; spare = spare j }
-    by false e = a.nothing e ∙ sym (b.nothing (sym same ∙ e))
+    same : f ≡ g
+    same =
+        let x : Found l f = a.found f refl in
+        let y : Found l g = b.found g refl in
+        let given : f.given ≡ g.given = x.given ∙ sym y.given in
+        let first : f.first ≡ g.first = x.first ∙ sym y.first in
+        let second : f.second ≡ g.second = x.second ∙ sym y.second in
+        let spare : f.spare ≡ g.spare = spared_one (nodes_in l 0) f.spare g.spare x.spared y.spared in
+        λ j. record { given = given j; first = first j; second = second j; spare = spare j }

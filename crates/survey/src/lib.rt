@@ -16,61 +16,47 @@
 
 ghost use Rattle.std.specs.Prelude.{◌≡◌};
 ghost use Rattle.model.specs.Answer.{Tells};
-ghost use Rattle.survey.specs.Promises.{Surveyed, Headed, unsound};
+ghost use Rattle.survey.specs.Promises.{Surveyed, Headed};
 
 mod spares; // the pass over the slots
 mod walk; // the walk over a tree
 
-use model::{Limits, PoolSettings};
+use model::PoolSettings;
 use spares::survey_slots;
 use tree_spare::Spare;
 use walk::{left_edge, walk_tree};
 
-// What a survey finds: whether the pool is sound; if it is, its settings, the heights of its two trees, and its unused slots.
+// What a survey finds of a sound pool: its settings, the heights of its two trees, and its unused slots.
 #[derive(Clone, Copy)]
 pub struct Findings {
-    pub sound: bool,
     pub given: PoolSettings,
     pub first: usize,
     pub second: usize,
     pub spare: Spare,
 }
 
-// Surveys any bytes.
-pub fn survey(pool: &[u8]) -> Findings
+// Surveys any bytes. Where they are no sound pool, nothing is found.
+pub fn survey(pool: &[u8]) -> Option<Findings>
     ensures { Surveyed pool.now result }
 {
     if !header_right(pool) {
-        return nothing();
+        return None;
     }
     let given = slots_pool::settings(pool);
     let st = model_code::handed(given, 0);
-    let spares = survey_slots(pool, st);
-    if !spares.ok {
-        return nothing();
-    }
-    let spare = spares.spare;
+    let spare = survey_slots(pool, st)?;
     let first = left_edge(pool, st);
-    let one = walk_tree(pool, st, first, given.nodes - spare.unused);
-    if !one.ok {
-        return nothing();
-    }
+    let left = walk_tree(pool, st, first, given.nodes - spare.unused)?;
     let su = model_code::handed(given, 1);
     let second = left_edge(pool, su);
-    let two = walk_tree(pool, su, second, one.left);
-    if !two.ok {
-        return nothing();
-    }
-    if two.left != 0 {
-        return nothing();
-    }
-    Findings {
-        sound: true,
+    let unreached = walk_tree(pool, su, second, left)?;
+    let found = Findings {
         given,
         first,
         second,
         spare,
-    }
+    };
+    (unreached == 0).then_some(found)
 }
 
 // Whether header and length are those of a sound pool.
@@ -91,26 +77,4 @@ fn header_right(pool: &[u8]) -> bool
         return false;
     }
     pool.len() == tree::pool_len(given)
-}
-
-fn nothing() -> Findings
-    ensures { result ≡ unsound }
-{
-    Findings {
-        sound: false,
-        given: PoolSettings {
-            nodes: 0,
-            first: Limits {
-                order: 0,
-                minimum: 0,
-            },
-            second: Limits {
-                order: 0,
-                minimum: 0,
-            },
-        },
-        first: 0,
-        second: 0,
-        spare: Spare { low: 0, unused: 0 },
-    }
 }

@@ -3,25 +3,24 @@
 //
 // Before it goes down from an interior it reads the first word of every child. Where the nodes of a tree lie scattered over a large
 // pool, a first word is waited for; in a loop of their own the children's words come together, in place of one after another.
-ghost use Rattle.std.specs.Prelude.{◌≡◌, false, ◌<◌};
+ghost use Rattle.std.specs.Prelude.{◌≡◌, ◌<◌};
 ghost use Rattle.words.specs.Words.{words};
 ghost use Rattle.slots_raw.specs.Promises.{Shape};
 ghost use Rattle.slots.specs.Nodes.{nodes, rows_at};
 ghost use Rattle.tree.specs.Pool.{first_child, height_at};
-ghost use Rattle.survey_node.specs.Parts.{last, least_root};
+ghost use Rattle.survey_node.specs.Parts.{least_root};
 ghost use Rattle.survey_node.specs.Promises.{There, Checked, Walked};
 
 use model::Settings;
-use survey_node::{Part, begin, check_leaf, fault, grow, interior_right, row_right, there};
+use survey_node::{Part, begin, check_leaf, grow, interior_right, row_right, there};
 
 // How many interiors there are down the left edge, at most 8. What is right about them the walk will tell.
 pub fn left_edge(pool: &[u8], st: Settings) -> usize
     requires { Shape st (words pool.now) }
     ensures { result ≡ height_at (nodes st (words pool.now)) 8 st.root }
 {
-    let mut height = 0;
     let mut s = st.root;
-    while height < 8 {
+    for height in 0..8 {
         if st.nodes <= s {
             return height;
         }
@@ -29,9 +28,8 @@ pub fn left_edge(pool: &[u8], st: Settings) -> usize
             return height;
         }
         s = first_child(pool, st, s);
-        height += 1;
     }
-    height
+    8
 }
 
 // The slot that the first row of slot `s` names, if it has one.
@@ -45,24 +43,25 @@ fn first_child(pool: &[u8], st: Settings, s: usize) -> usize
     tree_rows::child_of(slots_raw::raw_row(pool, st, s, 0))
 }
 
-// Walks over a tree, which may have `left` nodes: whether it is that of a sound pool, and how many nodes may still be opened.
-pub fn walk_tree(pool: &[u8], st: Settings, height: usize, left: usize) -> Part
+// Walks over a tree, which may have `left` nodes. Where it is that of a sound pool, answers how many nodes may still be opened.
+pub fn walk_tree(pool: &[u8], st: Settings, height: usize, left: usize) -> Option<usize>
     requires shape { Shape st (words pool.now) }
     requires edge { height ≡ height_at (nodes st (words pool.now)) 8 st.root }
     ensures { Walked st (words pool.now) left result }
 {
     if 7 < height {
-        return fault();
+        return None;
     }
     if !there(pool, st, height, st.root) {
-        return fault();
+        return None;
     }
     let least = least_root(height);
-    check_node(pool, st, height, st.root, least, false, 0, left)
+    let tree = check_node(pool, st, height, st.root, least, None, left)?;
+    Some(tree.left)
 }
 
 // Tests the tree of height `height` in slot `s`, whose root has `least` rows or more, and which may have `left` nodes. Its keys must
-// all be above `key`, the last one met, if one was met.
+// all be above `last`, the last one met, if one was met.
 #[cycle(check_interior_check_node)]
 fn check_node(
     pool: &[u8],
@@ -70,18 +69,17 @@ fn check_node(
     height: usize,
     s: usize,
     least: usize,
-    some: bool,
-    key: u64,
+    last: Option<u64>,
     left: usize,
-) -> Part
+) -> Option<Part>
     requires shape { Shape st (words pool.now) }
     requires there { There st (words pool.now) height s }
-    ensures { Checked st (words pool.now) height s least (last some key) left result }
+    ensures { Checked st (words pool.now) height s least last left result }
 {
     if height == 0 {
-        return check_leaf(pool, st, s, least, some, key, left);
+        return check_leaf(pool, st, s, least, last, left);
     }
-    check_interior(pool, st, height, s, least, some, key, left)
+    check_interior(pool, st, height, s, least, last, left)
 }
 
 // The same of an interior. Separators and totals are compared on the way up.
@@ -92,45 +90,32 @@ fn check_interior(
     height: usize,
     s: usize,
     least: usize,
-    some: bool,
-    key: u64,
+    last: Option<u64>,
     left: usize,
-) -> Part
+) -> Option<Part>
     requires shape { Shape st (words pool.now) }
     requires there { There st (words pool.now) height s }
     requires interior { 0 < height }
-    ensures { Checked st (words pool.now) height s least (last some key) left result }
+    ensures { Checked st (words pool.now) height s least last left result }
 {
     if !interior_right(pool, st, height, s, least, left) {
-        return fault();
+        return None;
     }
     let n = slots_raw::raw_count(pool, st, s);
-    let mut part = begin(key, left - 1);
-    let mut met = some;
-    let mut i = 0;
-    while i < n {
+    let mut part = begin(last, left - 1);
+    for i in 0..n {
         let row = slots_raw::raw_row(pool, st, s, i);
-        let child = check_node(
-            pool,
-            st,
-            height - 1,
-            tree_rows::child_of(row),
-            1,
-            met,
-            part.last,
-            part.left,
-        );
+        let slot = tree_rows::child_of(row);
+        let child = check_node(pool, st, height - 1, slot, 1, part.last, part.left)?;
         if !row_right(row, child) {
-            return fault();
+            return None;
         }
         part = grow(part, row.key, child.totals, child.left);
-        met = true;
-        i += 1;
     }
     if !slots_pool::tail_zero(pool, st, s, n) {
-        return fault();
+        return None;
     }
-    part
+    Some(part)
 }
 
 // How many rows a root of height `height` has at least.

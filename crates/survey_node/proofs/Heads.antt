@@ -46,10 +46,6 @@ pub first_raw : (st : Settings) (W : List ℕ) (s : ℕ) → Shape st W → 0 < 
 first_raw st W s sh some =
     ap child_of (row_raw st W s 0 some) ∙ sym (first_some (rows_at st W s) (omega (arith, rows_count st W s, sh.limits.wide, sh.roomy)))
 
--- a count of at most order is the number of rows
-pub head_count : (st : Settings) (W : List ℕ) (s : ℕ) → Shape st W → length (rows_at st W s) ≤ st.order → (raw_at st W s).count ≡ length (rows_at st W s)
-head_count st W s sh few = omega (arith, rows_count st W s, sh.limits.wide, sh.roomy)
-
 -- the test of the rows past the count tells of the tail
 pub tail_told : (st : Settings) (W : List ℕ) (s n : ℕ) (r : Bool) → n ≡ (raw_at st W s).count → n ≤ st.rows
     → Tells r (drop n (raw_at st W s).cells ≡ replicate (st.rows - n) blank) → Tells r (Tail st W s)
@@ -60,3 +56,18 @@ tail_told st W s n r e le t =
       holds = λ q. canon_tail st W s (omega arith) (now.holds q);
       told = λ z. now.told (canon_blank st.rows (raw_at st W s) z);
     }
+
+-- a count of at most order is the number of rows, which have room, and row i is the one that is read
+module _ (st : Settings) (W : List ℕ) (s n : ℕ) (sh : Shape st W) (few : length (rows_at st W s) ≤ st.order) (e : n ≡ (raw_at st W s).count) where
+  pub count_is : n ≡ length (rows_at st W s)
+  count_is = omega (arith, e, rows_count st W s, sh.limits.wide, sh.roomy)
+
+  pub count_fits : n ≤ st.rows
+  count_fits = omega (arith, e, few, rows_count st W s, sh.limits.wide, sh.roomy)
+
+  pub row_is : (i : ℕ) (r : Row) → i < n → r ≡ get_or (raw_at st W s).cells i blank → r ≡ get_or (rows_at st W s) i blank
+  row_is i r lt read = read ∙ row_raw st W s i (omega (arith, e))
+
+  -- the test of the rows past it
+  pub rest_told : (r : Bool) → Tells r (drop n (raw_at st W s).cells ≡ replicate (st.rows - n) blank) → Tells r (Tail st W s)
+  rest_told r = tail_told st W s n r e count_fits

@@ -1,6 +1,7 @@
 -- What makes a tree right, row by row: a leaf's row holds an entry and an interior's a child, so that one law over the height serves both.
 -- Assumes nothing.
 use mathlib.Core.Path.{◌≡◌, subst}
+use Rattle.std.specs.Prelude.{Option}
 use mathlib.Core.List.{List, [], ◌∷◌, map}
 use Prim.Native.Nat.{ℕ, zero, suc, ◌-◌, ◌≤◌, ◌<◌}
 use native.Mathlib.Omega.{arith}
@@ -19,7 +20,7 @@ use Rattle.model.proofs.Lists.{all_append, all_left, all_right, all_head, all_ta
 use Rattle.model.proofs.Trees.{slots_in}
 use Rattle.tree.specs.Bridge.{entry_of, child_of, tree_at}
 use Rattle.tree.specs.Pool.{Kinds, EachChild, Separates, Totalled}
-use Rattle.survey_node.specs.Parts.{Last, after, Beyond}
+use Rattle.survey_node.specs.Parts.{after, Beyond}
 use Rattle.survey_node.specs.Promises.{There, EachThere, Head, Opened, Tail, Right}
 use Rattle.survey_node.proofs.Ascents.{Ascends, ascends_append, ascends_left, ascends_right, ascends_beyond, ascends_sorted, sorted_ascends}
 
@@ -35,7 +36,7 @@ items_at ns h rs = map (item_at ns h) rs
 -- RIGHT ROWS
 
 -- one row, where the walk has met p and may open `left` nodes
-abbrev pub RightRow : Settings → List ℕ → (h : ℕ) → Row → Last → ℕ → Type 0
+abbrev pub RightRow : Settings → List ℕ → (h : ℕ) → Row → Option ℕ → ℕ → Type 0
 RightRow st W zero r p left = Fits (entry_of r) × Beyond p (entry_of r)
 RightRow st W (suc h) r p left =
     Right st W h (child_of r) 1 p left × (Separates h r (tree_at (nodes st W) h (child_of r)) × Totalled h r (tree_at (nodes st W) h (child_of r)))
@@ -49,7 +50,7 @@ EachIn P ns zero rs = Unit {0}
 EachIn P ns (suc h) rs = All (λ r. P h r (tree_at ns h (child_of r)) × EachChild P ns h (child_of r)) rs
 
 -- rows side by side
-pub record RightRows (st : Settings) (W : List ℕ) (h : ℕ) (rs : List Row) (p : Last) (left : ℕ) : Type 0 where
+pub record RightRows (st : Settings) (W : List ℕ) (h : ℕ) (rs : List Row) (p : Option ℕ) (left : ℕ) : Type 0 where
   pub kinds : KindsIn (nodes st W) h rs
   pub whole : All (Whole st h) (items_at (nodes st W) h rs)
   pub keys : Ascends p (flat h (items_at (nodes st W) h rs))
@@ -64,11 +65,11 @@ module _ (st : Settings) (W : List ℕ) where
   ns = nodes st W
 
   -- none, and one more
-  pub rows_none : (h : ℕ) (p : Last) (left : ℕ) → RightRows st W h [] p left
+  pub rows_none : (h : ℕ) (p : Option ℕ) (left : ℕ) → RightRows st W h [] p left
   rows_none zero p left = record { kinds = tt; whole = none; keys = tt; fit = none; separators = tt; totals = tt; tails = none; most = omega arith }
   rows_none (suc h) p left = record { kinds = none; whole = none; keys = tt; fit = none; separators = none; totals = none; tails = none; most = omega arith }
 
-  pub rows_cons : (h : ℕ) (r : Row) (rs : List Row) (p : Last) (left : ℕ) → RightRow st W h r p left
+  pub rows_cons : (h : ℕ) (r : Row) (rs : List Row) (p : Option ℕ) (left : ℕ) → RightRow st W h r p left
       → RightRows st W h rs (after p (entries h (item_at ns h r))) (left - length (slots h (item_at ns h r))) → RightRows st W h (r ∷ rs) p left
   rows_cons zero r rs p left g k =
       record {
@@ -96,7 +97,7 @@ module _ (st : Settings) (W : List ℕ) where
         most = omega (arith, length-append (slots (suc h) (tree_at ns h (child_of r))) (slots_in (suc h) (items_at ns (suc h) rs)), mine.most, k.most);
       }
 
-  pub rows_head : (h : ℕ) (r : Row) (rs : List Row) (p : Last) (left : ℕ) → RightRows st W h (r ∷ rs) p left → RightRow st W h r p left
+  pub rows_head : (h : ℕ) (r : Row) (rs : List Row) (p : Option ℕ) (left : ℕ) → RightRows st W h (r ∷ rs) p left → RightRow st W h r p left
   rows_head zero r rs p left k = (all_head k.fit, k.keys.0)
   rows_head (suc h) r rs p left k =
       let t : Tree h = tree_at ns h (child_of r) in
@@ -119,7 +120,7 @@ module _ (st : Settings) (W : List ℕ) where
         ((all_head k.separators).0, (all_head k.totals).0),
       )
 
-  pub rows_tail : (h : ℕ) (r : Row) (rs : List Row) (p : Last) (left : ℕ) → RightRows st W h (r ∷ rs) p left
+  pub rows_tail : (h : ℕ) (r : Row) (rs : List Row) (p : Option ℕ) (left : ℕ) → RightRows st W h (r ∷ rs) p left
       → RightRows st W h rs (after p (entries h (item_at ns h r))) (left - length (slots h (item_at ns h r)))
   rows_tail zero r rs p left k =
       record {
@@ -148,7 +149,7 @@ module _ (st : Settings) (W : List ℕ) where
 
   -- A TREE is right if its head, its rows and its tail are
 
-  pub right_rows : (h s least : ℕ) (p : Last) (left : ℕ) → Right st W h s least p left → RightRows st W h (nth ns s).rows p (left - 1)
+  pub right_rows : (h s least : ℕ) (p : Option ℕ) (left : ℕ) → Right st W h s least p left → RightRows st W h (nth ns s).rows p (left - 1)
   right_rows zero s least p left g =
       record {
         kinds = tt;
@@ -172,11 +173,11 @@ module _ (st : Settings) (W : List ℕ) where
         most = omega (arith, g.most);
       }
 
-  pub right_tail : (h s least : ℕ) (p : Last) (left : ℕ) → Right st W h s least p left → Tail st W s
+  pub right_tail : (h s least : ℕ) (p : Option ℕ) (left : ℕ) → Right st W h s least p left → Tail st W s
   right_tail zero s least p left g = all_head g.tails
   right_tail (suc h) s least p left g = all_head g.tails
 
-  pub rows_right : (h s least : ℕ) (p : Last) (left : ℕ) → Head st W h s least left → Tail st W s → RightRows st W h (nth ns s).rows p (left - 1)
+  pub rows_right : (h s least : ℕ) (p : Option ℕ) (left : ℕ) → Head st W h s least left → Tail st W s → RightRows st W h (nth ns s).rows p (left - 1)
       → Right st W h s least p left
   rows_right zero s least p left g z k =
       let rs : List Row = (nth ns s).rows in
@@ -224,7 +225,7 @@ pub kinds_there : (st : Settings) (W : List ℕ) (h s : ℕ) → Kinds (nodes st
 kinds_there st W zero s g = record { slot = omega (arith, used_low (nodes st W) s 0 g, length_nodes st W); kind = g }
 kinds_there st W (suc h) s g = record { slot = omega (arith, used_low (nodes st W) s 1 g.0, length_nodes st W); kind = g.0 }
 
-pub right_head : (st : Settings) (W : List ℕ) (h s least : ℕ) (p : Last) (left : ℕ) → Right st W h s least p left → Head st W h s least left
+pub right_head : (st : Settings) (W : List ℕ) (h s least : ℕ) (p : Option ℕ) (left : ℕ) → Right st W h s least p left → Head st W h s least left
 right_head st W zero s least p left g =
     record {
       there = kinds_there st W zero s g.kinds;
@@ -240,7 +241,7 @@ right_head st W (suc h) s least p left g =
       opens = omega (arith, g.most);
     }
 
-pub right_opened : (st : Settings) (W : List ℕ) (h s least : ℕ) (p : Last) (left : ℕ) → Right st W (suc h) s least p left → Opened st W (suc h) s least left
+pub right_opened : (st : Settings) (W : List ℕ) (h s least : ℕ) (p : Option ℕ) (left : ℕ) → Right st W (suc h) s least p left → Opened st W (suc h) s least left
 right_opened st W h s least p left g =
     let below : h ≡ suc h - 1 = omega arith in
     record {

@@ -1,5 +1,5 @@
 -- What the walk over a tree tests, node by node, and what it has found when it comes back from one. Assumes nothing.
-use Rattle.std.specs.Prelude.{ℕ, suc, ◌+◌, ◌-◌, ◌≤◌, ◌<◌, ◌≡◌, true, List, length}
+use Rattle.std.specs.Prelude.{ℕ, suc, ◌+◌, ◌-◌, ◌≤◌, ◌<◌, ◌≡◌, List, length, Option, Some, is_some}
 use Rattle.slots_raw.specs.declared.Row.{Row}
 use Rattle.slots_raw.specs.Slots.{raw_at}
 use Rattle.slots.specs.Nodes.{nodes, nth, rows_at, Canon}
@@ -11,7 +11,7 @@ use Rattle.model.specs.Sound.{Whole, Sorted, Fits}
 use Rattle.tree.specs.Bridge.{kind_for, child_of, child_totals, entry_of, tree_at}
 use Rattle.tree.specs.Pool.{index_in, Kinds, EachChild, Separates, Totalled, SoundNodes}
 use Rattle.survey_node.specs.declared.Part.{Part}
-use Rattle.survey_node.specs.Parts.{Last, after, Beyond}
+use Rattle.survey_node.specs.Parts.{after, Beyond}
 
 -- A NODE
 
@@ -41,7 +41,7 @@ abbrev pub Tail : Settings → List ℕ → ℕ → Type 0
 Tail st W s = Canon st.rows (raw_at st W s)
 
 -- the tree of height h in slot s is as in a sound pool, its keys are above p, and it has at most `left` nodes
-pub record Right (st : Settings) (W : List ℕ) (h s least : ℕ) (p : Last) (left : ℕ) : Type 0 where
+pub record Right (st : Settings) (W : List ℕ) (h s least : ℕ) (p : Option ℕ) (left : ℕ) : Type 0 where
   pub kinds : Kinds (nodes st W) h s
   pub some : least ≤ len (tree_at (nodes st W) h s)
   pub few : len (tree_at (nodes st W) h s) ≤ st.order
@@ -54,24 +54,27 @@ pub record Right (st : Settings) (W : List ℕ) (h s least : ℕ) (p : Last) (le
   pub tails : All (Tail st W) (slots (suc h) (tree_at (nodes st W) h s))
   pub most : length (slots (suc h) (tree_at (nodes st W) h s)) ≤ left
 
--- r tells whether it is; if so, the last key, the tree's totals, and how many nodes may still be opened
-pub record Checked (st : Settings) (W : List ℕ) (h s least : ℕ) (p : Last) (left : ℕ) (r : Part) : Type 0 where
-  pub ok : Tells r.ok (Right st W h s least p left)
-  pub key : r.ok ≡ true → r.last ≡ (after p (entries (suc h) (tree_at (nodes st W) h s))).key
-  pub totals : r.ok ≡ true → r.totals ≡ total (suc h) (tree_at (nodes st W) h s)
-  pub rest : r.ok ≡ true → r.left + length (slots (suc h) (tree_at (nodes st W) h s)) ≡ left
+-- what is found of it: the last key, the tree's totals, and how many nodes may still be opened
+pub record PartOf (st : Settings) (W : List ℕ) (h s : ℕ) (p : Option ℕ) (left : ℕ) (part : Part) : Type 0 where
+  pub last : part.last ≡ after p (entries (suc h) (tree_at (nodes st W) h s))
+  pub totals : part.totals ≡ total (suc h) (tree_at (nodes st W) h s)
+  pub rest : part.left + length (slots (suc h) (tree_at (nodes st W) h s)) ≡ left
+
+-- r tells whether it is; if so, what is found of it
+pub record Checked (st : Settings) (W : List ℕ) (h s least : ℕ) (p : Option ℕ) (left : ℕ) (r : Option Part) : Type 0 where
+  pub right : Tells (is_some r) (Right st W h s least p left)
+  pub found : (part : Part) → r ≡ Some part → PartOf st W h s p left part
 
 -- A ROW
 
 -- a leaf's row: an entry of a sound pool, above p
-pub record EntryRight (p : Last) (r : Row) : Type 0 where
+pub record EntryRight (p : Option ℕ) (r : Row) : Type 0 where
   pub beyond : Beyond p (entry_of r)
   pub fits : Fits (entry_of r)
 
 -- an interior's row, beside what the walk found of the child that it names
 pub record RowRight (r : Row) (child : Part) : Type 0 where
-  pub ok : child.ok ≡ true
-  pub key : r.key ≡ child.last
+  pub key : child.last ≡ Some r.key
   pub totals : child_totals r ≡ child.totals
 
 -- A TREE, from its root
@@ -87,6 +90,6 @@ pub record Passable (st : Settings) (W : List ℕ) (left : ℕ) : Type 0 where
   pub most : length (slots_of (index_in st.root (nodes st W))) ≤ left
 
 -- r tells whether it does; if so, how many nodes may still be opened
-pub record Walked (st : Settings) (W : List ℕ) (left : ℕ) (r : Part) : Type 0 where
-  pub ok : Tells r.ok (Passable st W left)
-  pub rest : r.ok ≡ true → r.left + length (slots_of (index_in st.root (nodes st W))) ≡ left
+pub record Walked (st : Settings) (W : List ℕ) (left : ℕ) (r : Option ℕ) : Type 0 where
+  pub passes : Tells (is_some r) (Passable st W left)
+  pub rest : (n : ℕ) → r ≡ Some n → n + length (slots_of (index_in st.root (nodes st W))) ≡ left

@@ -2,63 +2,57 @@
 // it is told whether it may be gone down from, and of each row whether it says of its child what the walk found there.
 #![tactic(auto)]
 
-ghost use Rattle.std.specs.Prelude.{◌≡◌, false, ◌<◌, ◌≤◌, length};
+ghost use Rattle.std.specs.Prelude.{◌≡◌, ◌<◌, ◌≤◌, length};
 ghost use Rattle.words.specs.Words.{words};
 ghost use Rattle.slots_raw.specs.Promises.{Shape};
 ghost use Rattle.slots.specs.Nodes.{nodes, rows_at};
 ghost use Rattle.model.specs.Answer.{Tells};
 ghost use Rattle.tree.specs.Promises.{ToAdd};
-ghost use Rattle.survey_node.specs.Parts.{last, begun, grown};
+ghost use Rattle.survey_node.specs.Parts.{begun, grown};
 ghost use Rattle.survey_node.specs.Promises.{There, EachThere, Head, Opened, Checked, EntryRight, RowRight};
 
 use model::{Settings, Totals};
 use slots_raw::Row;
 
-// What the walk has found when it comes back from a node: whether all was right; if so, the last key that it met, the totals of the
-// node's tree, and how many nodes it may still open.
+// What the walk has found when it comes back from a node that is right: the last key that it met, if it met one, the totals of the
+// node's tree, and how many nodes it may still open. At a fault there is none.
 #[derive(Clone, Copy)]
 pub struct Part {
-    pub ok: bool,
-    pub last: u64,
+    pub last: Option<u64>,
     pub totals: Totals,
     pub left: usize,
 }
 
-// Tests the leaf in slot `s`, which has `least` rows or more, where the walk may open `left` nodes. Its keys must all be above `key`, the last one
+// Tests the leaf in slot `s`, which has `least` rows or more, where the walk may open `left` nodes. Its keys must all be above `last`, the last one
 // met, if one was met.
 pub fn check_leaf(
     pool: &[u8],
     st: Settings,
     s: usize,
     least: usize,
-    some: bool,
-    key: u64,
+    last: Option<u64>,
     left: usize,
-) -> Part
+) -> Option<Part>
     requires shape { Shape st (words pool.now) }
     requires there { There st (words pool.now) 0 s }
-    ensures { Checked st (words pool.now) 0 s least (last some key) left result }
+    ensures { Checked st (words pool.now) 0 s least last left result }
 {
     if !head_right(pool, st, 0, s, least, left) {
-        return fault();
+        return None;
     }
     let entries = slots_raw::raw_count(pool, st, s);
-    let mut part = begin(key, left - 1);
-    let mut met = some;
-    let mut i = 0;
-    while i < entries {
+    let mut part = begin(last, left - 1);
+    for i in 0..entries {
         let row = slots_raw::raw_row(pool, st, s, i);
-        if !entry_right(row, met, part.last) {
-            return fault();
+        if !entry_right(row, part.last) {
+            return None;
         }
         part = grow(part, row.key, tree_rows::entry_totals(row), part.left);
-        met = true;
-        i += 1;
     }
     if !slots_pool::tail_zero(pool, st, s, entries) {
-        return fault();
+        return None;
     }
-    part
+    Some(part)
 }
 
 // Whether the interior in slot `s` may be gone down from: its head is right, and each of its rows names a node one level below.
@@ -75,10 +69,7 @@ pub fn interior_right(
     requires interior { 0 < height }
     ensures { Tells result (Opened st (words pool.now) height s least left) }
 {
-    if !head_right(pool, st, height, s, least, left) {
-        return false;
-    }
-    children_there(pool, st, height - 1, s)
+    head_right(pool, st, height, s, least, left) && children_there(pool, st, height - 1, s)
 }
 
 // Whether each row of slot `s`, which are at most order, names a slot with a node of height `height`.
@@ -88,13 +79,11 @@ fn children_there(pool: &[u8], st: Settings, height: usize, s: usize) -> bool
     ensures { Tells result (EachThere st (words pool.now) height (rows_at st (words pool.now) s)) }
 {
     let n = slots_raw::raw_count(pool, st, s);
-    let mut i = 0;
-    while i < n {
+    for i in 0..n {
         let row = slots_raw::raw_row(pool, st, s, i);
         if !there(pool, st, height, tree_rows::child_of(row)) {
             return false;
         }
-        i += 1;
     }
     true
 }
@@ -104,10 +93,7 @@ pub fn there(pool: &[u8], st: Settings, height: usize, s: usize) -> bool
     requires { Shape st (words pool.now) }
     ensures { Tells result (There st (words pool.now) height s) }
 {
-    if st.nodes <= s {
-        return false;
-    }
-    slots_raw::raw_kind(pool, st, s) == tree::kind_for(height)
+    s < st.nodes && slots_raw::raw_kind(pool, st, s) == tree::kind_for(height)
 }
 
 // Whether the node in slot `s` has `least` to order rows, and the walk may open it.
@@ -120,45 +106,35 @@ fn head_right(pool: &[u8], st: Settings, height: usize, s: usize, least: usize, 
         return false;
     }
     let n = slots_raw::raw_count(pool, st, s);
-    if n < least {
-        return false;
-    }
-    n <= st.order
+    least <= n && n <= st.order
 }
 
-// Whether a leaf's row is an entry whose key is above `key`, if one was met. A size is of 4 bytes, though its word has 8.
-fn entry_right(row: Row, met: bool, key: u64) -> bool
-    ensures { Tells result (EntryRight (last met key) row) }
+// Whether a leaf's row is an entry whose key is above `last`, if a key was met. A size is of 4 bytes, though its word has 8.
+fn entry_right(row: Row, last: Option<u64>) -> bool
+    ensures { Tells result (EntryRight last row) }
 {
     if 0x1_0000_0000 <= row.size {
         return false;
     }
-    if !met {
-        return true;
+    match last {
+        Some(key) => key < row.key,
+        None => true,
     }
-    key < row.key
 }
 
 // Whether an interior's row says of its child what the walk found.
 pub fn row_right(row: Row, child: Part) -> bool
     ensures { Tells result (RowRight row child) }
 {
-    if !child.ok {
-        return false;
-    }
-    if row.key != child.last {
-        return false;
-    }
-    tree_rows::same_totals(tree_rows::child_totals(row), child.totals)
+    child.last == Some(row.key) && tree_rows::child_totals(row) == child.totals
 }
 
 // A walk at the start of a node's rows.
-pub fn begin(key: u64, left: usize) -> Part
-    ensures { result ≡ begun key left }
+pub fn begin(last: Option<u64>, left: usize) -> Part
+    ensures { result ≡ begun last left }
 {
     Part {
-        ok: true,
-        last: key,
+        last,
         totals: model_code::no_totals(),
         left,
     }
@@ -170,21 +146,8 @@ pub fn grow(part: Part, key: u64, t: Totals, left: usize) -> Part
     ensures { result ≡ grown part.totals key t left }
 {
     Part {
-        ok: true,
-        last: key,
+        last: Some(key),
         totals: tree_rows::plus_totals(part.totals, t),
         left,
-    }
-}
-
-// What it answers with at a fault.
-pub fn fault() -> Part
-    ensures { result.ok ≡ false }
-{
-    Part {
-        ok: false,
-        last: 0,
-        totals: model_code::no_totals(),
-        left: 0,
     }
 }

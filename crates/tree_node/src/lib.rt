@@ -24,12 +24,10 @@ pub fn stats(pool: &[u8], st: Settings, height: usize, s: usize) -> Totals
 {
     let n = slots::count(pool, st, s);
     let mut t = no_totals();
-    let mut i = 0;
-    while i < n {
+    for i in 0..n {
         let row = slots::row_at(pool, st, s, i);
         let more = row_totals(height, row);
         t = plus_totals(t, more);
-        i += 1;
     }
     t
 }
@@ -44,7 +42,7 @@ pub fn weigh(pool: &[u8], st: Settings, height: usize, s: usize) -> Row
     child_row(key, s, totals)
 }
 
-// The key of the last row of node `s`, or 0 where it has none.
+// The key of the last row of node `s`, or 0 where it has none: `row_over` says 0 of a node without rows, so an Option would be taken apart again.
 fn last_key(pool: &[u8], st: Settings, s: usize) -> u64
     requires { ToTouch st (words pool.now) s }
     ensures { result ≡ last_key (rows_at st (words pool.now) s) }
@@ -71,13 +69,11 @@ pub fn child_for(pool: &[u8], st: Settings, s: usize, from: usize, key: u64) -> 
     ensures { Chosen (rows_at st (words pool.now) s) from key result }
 {
     let n = slots::count(pool, st, s);
-    let mut i = from;
-    while i + 1 < n {
+    for i in from..n - 1 {
         let separator = slots_find::key_at(pool, st, s, i);
         if key <= separator {
             return i;
         }
-        i += 1;
     }
-    i
+    n - 1
 }

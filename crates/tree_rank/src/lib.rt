@@ -36,12 +36,10 @@ pub fn spot_of(pool: &[u8], st: Settings, height: usize, s: usize, r: usize) -> 
 {
     let mut leaf = s;
     let mut row = r;
-    let mut h = height;
-    while 0 < h {
+    for _h in (0..height).rev() {
         let step = step_to(pool, st, leaf, row);
         leaf = step.child;
         row = step.rank;
-        h -= 1;
     }
     Spot { leaf, row }
 }
@@ -53,6 +51,7 @@ fn step_to(pool: &[u8], st: Settings, s: usize, r: usize) -> Step
 {
     let mut rank = r;
     let mut i = 0;
+    // no `for`: one child has the entry (`ToStep`), and behind the last row there would have to be an answer that never comes
     loop {
         let row = slots::row_at(pool, st, s, i);
         let n = entries_in(row);

@@ -5,7 +5,6 @@
 #![tactic(auto)]
 
 ghost use Rattle.std.specs.Prelude.{◌≡◌, ◌<◌};
-ghost use Rattle.model.specs.Answer.{Tells};
 ghost use Rattle.model.specs.Tree.{adds, plus};
 ghost use Rattle.model.specs.Plain.{entry_for};
 ghost use Rattle.tree.specs.Bridge.{entry_row, entry_of, child_of, child_row, child_totals, row_totals};
@@ -114,17 +113,4 @@ pub fn plus_totals(a: Totals, b: Totals) -> Totals
         dead: a.dead + b.dead,
         size: a.size + b.size,
     }
-}
-
-// Whether two totals are the same.
-pub fn same_totals(a: Totals, b: Totals) -> bool
-    ensures { Tells result (a ≡ b) }
-{
-    if a.live != b.live {
-        return false;
-    }
-    if a.dead != b.dead {
-        return false;
-    }
-    a.size == b.size
 }

@@ -10,7 +10,8 @@ ghost use Rattle.tree_spare.specs.Spared.{Spared, ToTake, freeing};
 
 use model::Settings;
 
-// The lowest unused slot, or the number of slots where there is none, and how many slots are unused.
+// The lowest unused slot, or the number of slots where there is none, and how many slots are unused. (No Option: who takes a slot has asked before whether
+// there are enough, `ToTake`, and would unwrap it at each use.)
 #[derive(Clone, Copy)]
 pub struct Spare {
     pub low: usize,

@@ -35,7 +35,7 @@ pub fn put_word(pool: &mut [u8], i: usize, v: u64)
 pub fn at(s: &[u64], i: usize) -> u64
     ensures { result ≡ slice_index s.now i }
 {
-    if i < s.len() { s[i] } else { 0 }
+    s.get(i).copied().unwrap_or(0)
 }
 
 pub fn put(s: &mut [u64], i: usize, v: u64)
@@ -46,38 +46,18 @@ pub fn put(s: &mut [u64], i: usize, v: u64)
     }
 }
 
-pub fn put_size(s: &mut [u32], i: usize, v: u32)
-    ensures { s.new ≡ slice_set s.old i v }
-{
-    if i < s.len() {
-        s[i] = v;
-    }
-}
-
-pub fn byte_at(s: &[u8], i: usize) -> u8
-    ensures { result ≡ slice_index s.now i }
-{
-    if i < s.len() { s[i] } else { 0 }
-}
-
 // The sum, where it fits; else what is left of it.
 pub fn plus(a: usize, b: usize) -> usize
     ensures { result ≡ (a + b) % 2 ^ 64 }
 {
-    std::num::wrapping_add_usize(a, b)
+    a.wrapping_add(b)
 }
 
 // The product of numbers below 65,536; of greater ones it is 0.
 pub fn times(a: usize, b: usize) -> usize
     ensures { result ≡ product a b }
 {
-    if a > 65535 {
-        return 0;
-    }
-    if b > 65535 {
-        return 0;
-    }
-    a * b
+    if a > 65535 || b > 65535 { 0 } else { a * b }
 }
 
 // Writes a text. (What a program writes is in no contract: `io::write_all` promises nothing of it.)

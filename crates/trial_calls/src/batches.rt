@@ -1,10 +1,9 @@
 // Kinds 3 to 6: batches on one tree. The arguments are those behind the tree's number.
-use index_promise::BatchAnswer;
-use model::{Action, Expectation, Operation, Reference};
-use trial::{at, plus, put_size};
+use model::{Action, Batch, Counts, Expectation, Operation, Reference, Refusal};
+use trial::{at, plus};
 use trial_lines::form::{second, size, third};
 use trial_lines::line::list;
-use trial_lines::told::{Told, amiss, check, checked};
+use trial_lines::told::{Told, answered, check, checked};
 
 pub fn set(pool: &mut [u8], tree: usize, args: &[u64]) -> Told {
     plain(
@@ -28,56 +27,50 @@ pub fn compare(pool: &mut [u8], tree: usize, args: &[u64]) -> Told {
 fn plain(pool: &mut [u8], tree: usize, keys: &[u64], op: Operation) -> Told {
     let places = [0u64; 1];
     let sizes = [0u32; 1];
-    let a = index::batch(pool, tree, keys, &places, &sizes, op);
+    let batch = Batch {
+        operation: op,
+        keys,
+        places: &places,
+        sizes: &sizes,
+    };
+    let a = index::batch(pool, tree, &batch);
     counted(pool, a)
 }
 
 // The arguments are three lists.
-pub fn set_each(pool: &mut [u8], tree: usize, args: &[u64]) -> Told {
+pub fn set_each(pool: &mut [u8], tree: usize, args: &[u64]) -> Option<Told> {
     let keys = list(args, 0);
     let places = list(args, second(args));
     let numbers = list(args, third(args));
-    let mut sizes = [0u32; 64];
-    narrow(numbers, &mut sizes);
-    set_to(pool, tree, keys, places, &sizes, numbers.len())
+    let mut room = [0u32; 64];
+    narrow(numbers, &mut room);
+    let batch = Batch {
+        operation: Operation::SetEach,
+        keys,
+        places,
+        sizes: room.get(..numbers.len())?,
+    };
+    let a = index::batch(pool, tree, &batch);
+    Some(counted(pool, a))
 }
 
-fn narrow(numbers: &[u64], sizes: &mut [u32]) {
-    for j in 0..numbers.len() {
-        put_size(sizes, j, size(at(numbers, j)));
+fn narrow(numbers: &[u64], sizes: &mut [u32; 64]) {
+    for (place, number) in sizes.iter_mut().zip(numbers) {
+        *place = size(*number);
     }
 }
 
-// So many of the sizes are lent.
-fn set_to(
-    pool: &mut [u8],
-    tree: usize,
-    keys: &[u64],
-    places: &[u64],
-    sizes: &[u32],
-    n: usize,
-) -> Told {
-    if n > sizes.len() {
-        return amiss();
-    }
-    let a = index::batch(pool, tree, keys, places, &sizes[..n], Operation::SetEach);
-    counted(pool, a)
-}
-
-fn counted(pool: &[u8], a: BatchAnswer) -> Told {
+fn counted(pool: &[u8], a: Result<Counts, Refusal>) -> Told {
     match a {
-        BatchAnswer::Done(c) => Told {
-            n: 6,
-            of: [
-                0,
-                c.added as u64,
-                c.replaced as u64,
-                c.removed as u64,
-                c.nothing as u64,
-                check(pool),
-            ],
-        },
-        BatchAnswer::Refused(n) => checked(pool, n),
+        Ok(c) => answered(&[
+            0,
+            c.added as u64,
+            c.replaced as u64,
+            c.removed as u64,
+            c.nothing as u64,
+            check(pool),
+        ]),
+        Err(why) => checked(pool, Err(why)),
     }
 }
 

@@ -5,8 +5,7 @@
 
 mod twice; // a slot that both trees name
 
-use index_promise::{BatchAnswer, OpenAnswer};
-use model::{Limits, Operation, PoolSettings};
+use model::{Batch, Limits, Operation, PoolSettings};
 use trial::{say, tell, times};
 use trial_rules::Shape;
 use trial_ways::{damage, report, sound};
@@ -118,7 +117,7 @@ fn three_levels() {
 
 // Opens a pool, sets the keys of a plan for each tree, and damages it.
 fn attempt(pool: &mut [u8], given: PoolSettings, first: Plan, second: Plan) {
-    if !opened(pool, given) {
+    if index::open(pool, given).is_err() {
         say(b" not opened\n");
         return;
     }
@@ -136,13 +135,6 @@ fn attempt(pool: &mut [u8], given: PoolSettings, first: Plan, second: Plan) {
     }
 }
 
-fn opened(pool: &mut [u8], given: PoolSettings) -> bool {
-    match index::open(pool, given) {
-        OpenAnswer::Done => true,
-        OpenAnswer::Refused(_) => false,
-    }
-}
-
 fn shape(given: PoolSettings) -> Shape {
     let first = given.first;
     let second = given.second;
@@ -155,17 +147,12 @@ fn shape(given: PoolSettings) -> Shape {
 
 // Sets the keys one by one, a key of each tree in turn, so that their nodes lie between each other's; answers how many were added.
 fn filled(pool: &mut [u8], first: Plan, second: Plan) -> u64 {
-    let n = longer(first, second);
-    let mut added = 0;
-    for j in 0..n {
-        added = std::num::wrapping_add_u64(added, set_one(pool, 0, first, j));
-        added = std::num::wrapping_add_u64(added, set_one(pool, 1, second, j));
+    let mut added: u64 = 0;
+    for j in 0..first.n.max(second.n) {
+        added = added.wrapping_add(set_one(pool, 0, first, j));
+        added = added.wrapping_add(set_one(pool, 1, second, j));
     }
     added
-}
-
-fn longer(p: Plan, q: Plan) -> usize {
-    if p.n < q.n { q.n } else { p.n }
 }
 
 // Sets the j-th key of a plan, if it has one.
@@ -174,30 +161,31 @@ fn set_one(pool: &mut [u8], tree: usize, p: Plan, j: usize) -> u64 {
         return 0;
     }
     let k = times(p.stride, j) % 128;
-    let key = std::num::wrapping_add_u64(p.first, times(p.step, k) as u64);
+    let key = p.first.wrapping_add(times(p.step, k) as u64);
     let keys = [key];
     let places = [place_of(key, k, p.dead)];
     let sizes = [size_of(k, p.dead)];
-    match index::batch(pool, tree, &keys, &places, &sizes, Operation::SetEach) {
-        BatchAnswer::Done(c) => c.added as u64,
-        BatchAnswer::Refused(_) => 0,
+    let batch = Batch {
+        operation: Operation::SetEach,
+        keys: &keys,
+        places: &places,
+        sizes: &sizes,
+    };
+    match index::batch(pool, tree, &batch) {
+        Ok(c) => c.added as u64,
+        Err(_) => 0,
     }
 }
 
+// Nothing has a remainder by 0: then none is marked.
 fn place_of(key: u64, k: usize, dead: usize) -> u64 {
-    if dead != 0 {
-        if k % dead == 0 {
-            return 0;
-        }
+    if k.checked_rem(dead) == Some(0) {
+        0
+    } else {
+        key.wrapping_add(256)
     }
-    std::num::wrapping_add_u64(256, key)
 }
 
 fn size_of(k: usize, dead: usize) -> u32 {
-    if dead != 0 {
-        if k % 3 == 0 {
-            return 0;
-        }
-    }
-    16
+    if dead != 0 && k % 3 == 0 { 0 } else { 16 }
 }

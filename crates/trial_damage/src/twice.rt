@@ -5,7 +5,7 @@
 use trial::{plus, put_word, say, times};
 use trial_ways::sound;
 
-// The kinds of a leaf and of an interior, of tree 0 and of tree 1.
+// The kinds of a leaf and of an interior, of tree 0 and of tree 1, as the pool has them in a word.
 const LEAF: u64 = 1;
 
 const INTERIOR: u64 = 2;
@@ -64,8 +64,7 @@ fn put_leaves(pool: &mut [u8], second: u64, fifth: u64) {
 
 // A kind and two rows: a key and the next.
 fn leaf(kind: u64, key: u64) -> [u64; 8] {
-    let next = std::num::wrapping_add_u64(key, 1);
-    [kind, 2, key, 256, 16, next, 256, 16]
+    [kind, 2, key, 256, 16, key.wrapping_add(1), 256, 16]
 }
 
 // A kind and two rows: the slots and greatest keys of two leaves.
@@ -84,7 +83,7 @@ fn put_slot(pool: &mut [u8], slot: usize, ws: [u64; 8]) {
 }
 
 fn put_words(pool: &mut [u8], from: usize, ws: [u64; 8]) {
-    for i in 0..8 {
-        put_word(pool, plus(from, i), ws[i]);
+    for (i, w) in ws.iter().enumerate() {
+        put_word(pool, plus(from, i), *w);
     }
 }

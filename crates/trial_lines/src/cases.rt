@@ -1,18 +1,27 @@
-// Kinds 12 and 13, which are no calls: the calls behind such a line, up to the next one, are those of a numbered case, or of a reading.
+// The lines that are no calls but heads: the calls behind one, up to the next one, are those of a numbered case, or of a reading.
+use crate::kind::Kind;
+use crate::line::Call;
 use trial::{at, say, tell};
 
-const CASE: u64 = 12;
-
-const READING: u64 = 13;
-
-// The case or reading at hand: its kind (0 where there is none) and number, whether it has a call, and whether one was answered otherwise.
-// Besides, how many cases and how many readings held before it.
+// What a line heads, with its number.
 #[derive(Clone, Copy)]
-pub struct Cases {
-    kind: u64,
-    number: u64,
+pub enum Head {
+    Case(u64),
+    Reading(u64),
+}
+
+// The case or reading at hand: whether it has a call, and whether one was answered otherwise.
+#[derive(Clone, Copy)]
+struct Case {
+    head: Head,
     tried: bool,
     amiss: bool,
+}
+
+// The case or reading at hand, where there is one, and how many cases and how many readings held before it.
+#[derive(Clone, Copy)]
+pub struct Cases {
+    at_hand: Option<Case>,
     cases: u64,
     readings: u64,
 }
@@ -20,77 +29,74 @@ pub struct Cases {
 // No case yet.
 pub fn none() -> Cases {
     Cases {
-        kind: 0,
-        number: 0,
-        tried: false,
-        amiss: false,
+        at_hand: None,
         cases: 0,
         readings: 0,
     }
 }
 
-// Whether a line begins a case or a reading: it has one number, and no answers.
-pub fn is_head(line: &[u64]) -> bool {
-    is_headed(at(line, 0)) && at(line, 1) == 1 && line.len() == 4
+// What a line heads, if it is a head: it has one number, and no answers.
+pub fn headed(line: Call) -> Option<Head> {
+    if line.args.len() != 1 || !line.answers.is_empty() {
+        return None;
+    }
+    let number = at(line.args, 0);
+    match line.kind {
+        Kind::Case => Some(Head::Case(number)),
+        Kind::Reading => Some(Head::Reading(number)),
+        _ => None,
+    }
 }
 
-fn is_headed(kind: u64) -> bool {
-    kind == CASE || kind == READING
-}
-
-// What was at hand ends, and what this line heads begins.
-pub fn begin(c: Cases, line: &[u64]) -> Cases {
-    let mut r = end(c);
-    r.kind = at(line, 0);
-    r.number = at(line, 2);
-    r
+// What was at hand ends, and what a line heads begins.
+pub fn begin(cases: &mut Cases, head: Head) {
+    end(cases);
+    cases.at_hand = Some(Case {
+        head,
+        tried: false,
+        amiss: false,
+    });
 }
 
 // A call was made, and answered as the list has it or otherwise.
-pub fn count(c: Cases, same: bool) -> Cases {
-    let mut r = c;
-    r.tried = true;
-    r.amiss = c.amiss || !same;
-    r
+pub fn count(cases: &mut Cases, same: bool) {
+    if let Some(case) = &mut cases.at_hand {
+        case.tried = true;
+        case.amiss = case.amiss || !same;
+    }
 }
 
 // Says whether what was at hand holds, and counts it.
-pub fn end(c: Cases) -> Cases {
-    let mut r = none();
-    r.cases = c.cases;
-    r.readings = c.readings;
-    if !is_headed(c.kind) {
-        return r;
-    }
-    name(c);
-    if !holds(c) {
+pub fn end(cases: &mut Cases) {
+    let Some(case) = cases.at_hand.take() else {
+        return;
+    };
+    name(case.head);
+    if !holds(case) {
         say(b" FAILS\n");
-        return r;
+        return;
     }
     say(b" holds\n");
-    if c.kind == CASE {
-        r.cases = std::num::wrapping_add_u64(c.cases, 1);
-    } else {
-        r.readings = std::num::wrapping_add_u64(c.readings, 1);
+    match case.head {
+        Head::Case(_) => cases.cases = cases.cases.wrapping_add(1),
+        Head::Reading(_) => cases.readings = cases.readings.wrapping_add(1),
     }
-    r
 }
 
-fn name(c: Cases) {
-    if c.kind == CASE {
-        tell(b"case ", c.number);
-    } else {
-        tell(b"reading ", c.number);
+fn name(head: Head) {
+    match head {
+        Head::Case(number) => tell(b"case ", number),
+        Head::Reading(number) => tell(b"reading ", number),
     }
 }
 
 // It has a call, and each was answered as the list has it.
-fn holds(c: Cases) -> bool {
-    c.tried && !c.amiss
+fn holds(case: Case) -> bool {
+    case.tried && !case.amiss
 }
 
-pub fn report(c: Cases) {
-    tell(b"cases that held: ", c.cases);
-    tell(b"\nreadings that held: ", c.readings);
+pub fn report(cases: Cases) {
+    tell(b"cases that held: ", cases.cases);
+    tell(b"\nreadings that held: ", cases.readings);
     say(b"\n");
 }

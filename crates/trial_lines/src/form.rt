@@ -24,6 +24,7 @@
 //
 // A list among the arguments is its length and then its numbers. Before the answers stands 0, or else the number of a refusal and nothing
 // but, where a pool is lent for change, its check.
+use crate::kind::Kind;
 use crate::line::list;
 use trial::{at, plus};
 
@@ -31,40 +32,30 @@ use trial::{at, plus};
 const SIZES: u64 = 0x1_0000_0000;
 
 // Whether a call of this kind has such arguments.
-pub fn formed(kind: u64, args: &[u64]) -> bool {
+pub fn formed(kind: Kind, args: &[u64]) -> bool {
     let n = args.len();
+    let behind = behind_tree(args);
     match kind {
-        1 => n == 6,
-        10 => ends(args, 0) && below(list(args, 0), 256),
-        11 => n == 2,
-        14 => n == 0,
-        _ => n > 0 && formed_behind(kind, behind_tree(args)),
-    }
-}
-
-// Whether a call of this kind, which names a tree first, has such arguments behind it.
-fn formed_behind(kind: u64, args: &[u64]) -> bool {
-    let n = args.len();
-    match kind {
-        2 => n == 0,
-        3 => ends(args, 2) && at(args, 1) < SIZES,
-        4 => ends(args, third(args)) && below(list(args, third(args)), SIZES),
-        5 => ends(args, 0),
-        6 => ends(args, 6) && at(args, 2) < SIZES && at(args, 5) < SIZES,
-        7 => ends(args, 1),
-        8 => n == 9 && at(args, 7) < SIZES,
-        9 => n == 2,
-        16 => n == 8 && at(args, 6) < SIZES,
-        _ => false,
+        Kind::Open => n == 6,
+        Kind::Totals => n == 1,
+        Kind::Set => ends(behind, 2) && at(behind, 1) < SIZES,
+        Kind::SetEach => ends(behind, third(behind)) && below(list(behind, third(behind)), SIZES),
+        Kind::Remove => ends(behind, 0),
+        Kind::Compare => ends(behind, 6) && at(behind, 2) < SIZES && at(behind, 5) < SIZES,
+        Kind::Get => ends(behind, 1),
+        Kind::Scan => n == 10 && at(behind, 7) < SIZES,
+        Kind::Frame => n == 3,
+        Kind::ReadFrame => ends(args, 0) && below(list(args, 0), 256),
+        Kind::Put => n == 2,
+        Kind::Pack => n == 0,
+        Kind::Portion => n == 9 && at(behind, 6) < SIZES,
+        Kind::Case | Kind::Reading | Kind::Turn => false,
     }
 }
 
 // The arguments of a call on one tree, behind the number of the tree.
 pub fn behind_tree(args: &[u64]) -> &[u64] {
-    if args.len() == 0 {
-        return args;
-    }
-    &args[1..]
+    args.get(1..).unwrap_or(args)
 }
 
 // The arguments end where the list at i does.
@@ -74,12 +65,7 @@ fn ends(args: &[u64], i: usize) -> bool {
 
 // All numbers are less than the limit.
 fn below(numbers: &[u64], limit: u64) -> bool {
-    for j in 0..numbers.len() {
-        if at(numbers, j) >= limit {
-            return false;
-        }
-    }
-    true
+    numbers.iter().all(|n| *n < limit)
 }
 
 // Where the second list of a set each begins, and the third.

@@ -2,9 +2,10 @@
 // Nothing here calls the index.
 #![tactic(auto)]
 
-pub mod line; // bytes to the numbers of a line
+pub mod kind; // the kinds of lines
+pub mod line; // bytes to the numbers of a line, and to what it says
 pub mod form; // calls by their kinds and arguments
-pub mod pools; // kind 15, and which of two pools is at hand
+pub mod pools; // turns, and which of two pools is at hand
 pub mod told; // answers as a line has them
-pub mod cases; // kinds 12 and 13: the case or reading at hand, and whether it holds
+pub mod cases; // the case or reading at hand, and whether it holds
 pub mod tally; // how many calls of each kind were answered otherwise

@@ -1,7 +1,7 @@
-// The two pools, of which one is at hand. Kind 15 turns them round, and is no call.
+// The two pools, of which one is at hand. A turn turns them round, and is no call.
+use crate::kind::Kind;
+use crate::line::Call;
 use trial::at;
-
-const TURN: u64 = 15;
 
 // Whether the second pool is at hand, and how many bytes are lent: of the pool at hand, and of the other one.
 #[derive(Clone, Copy)]
@@ -21,8 +21,8 @@ pub fn none() -> Pools {
 }
 
 // Whether a line is a turn: it has no arguments, and no answers.
-pub fn is_turn(line: &[u64]) -> bool {
-    at(line, 0) == TURN && line.len() == 3
+pub fn is_turn(line: Call) -> bool {
+    line.kind == Kind::Turn && line.args.is_empty() && line.answers.is_empty()
 }
 
 pub fn turn(p: Pools) -> Pools {
@@ -34,10 +34,12 @@ pub fn turn(p: Pools) -> Pools {
 }
 
 // An opening says how many bytes of the pool at hand are lent, for all calls up to its next one.
-pub fn lend(p: Pools, kind: u64, args: &[u64]) -> Pools {
-    let mut r = p;
-    if kind == 1 {
-        r.lent = at(args, 5) as usize;
+pub fn lend(p: Pools, call: Call) -> Pools {
+    if call.kind != Kind::Open {
+        return p;
     }
-    r
+    Pools {
+        lent: at(call.args, 5) as usize,
+        ..p
+    }
 }

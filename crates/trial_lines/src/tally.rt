@@ -1,58 +1,75 @@
-// The tally of the calls. It has three numbers for each kind: its calls, how many of them were refused, and how many were answered
-// otherwise. The first three are those of all calls.
+// The tally of the calls, in all and of each kind.
+use crate::kind::Kind;
 use crate::told::{Told, is_refusal};
-use trial::{at, plus, put, say, tell, times};
+use trial::{say, tell};
 
-// The kinds of calls are numbered from 1 on. Of these 12, 13 and 15 are none, and are not told of.
-const KINDS: u64 = 16;
+// How many calls there were, how many of them were refused, and how many were answered otherwise.
+#[derive(Clone, Copy)]
+struct Row {
+    calls: u64,
+    refused: u64,
+    otherwise: u64,
+}
 
-pub type Tally = [u64; 51];
+// The kinds have the rows of their numbers. The first row is that of all calls.
+#[derive(Clone, Copy)]
+pub struct Tally {
+    rows: [Row; 17],
+}
 
-pub fn count(tally: &mut Tally, kind: u64, t: Told, same: bool) {
-    count_in(tally, 0, t, same);
-    if kind > 0 && kind <= KINDS {
-        count_in(tally, kind as usize, t, same);
+pub fn none() -> Tally {
+    let row = Row {
+        calls: 0,
+        refused: 0,
+        otherwise: 0,
+    };
+    Tally { rows: [row; 17] }
+}
+
+// A line that could not be read has no kind, and is counted as a call for all that.
+pub fn count(tally: &mut Tally, kind: Option<Kind>, told: Option<Told>, same: bool) {
+    count_in(&mut tally.rows[0], told, same);
+    if let Some(kind) = kind {
+        count_in(&mut tally.rows[kind as usize], told, same);
     }
 }
 
-fn count_in(tally: &mut Tally, row: usize, t: Told, same: bool) {
-    let i = times(3, row);
-    add(tally, i, true);
-    add(tally, plus(i, 1), is_refusal(t));
-    add(tally, plus(i, 2), !same);
+fn count_in(row: &mut Row, told: Option<Told>, same: bool) {
+    row.calls = one_more(row.calls, true);
+    row.refused = one_more(row.refused, is_refusal(told));
+    row.otherwise = one_more(row.otherwise, !same);
 }
 
-fn add(tally: &mut Tally, i: usize, on: bool) {
-    if on {
-        let n = at(tally, i);
-        put(tally, i, std::num::wrapping_add_u64(n, 1));
-    }
+fn one_more(n: u64, on: bool) -> u64 {
+    n.wrapping_add(on as u64)
 }
 
+// The kinds 12, 13 and 15 are no calls, and are not told of.
 pub fn report(tally: &Tally) {
-    report_kind(tally, 1, b"open ");
-    report_kind(tally, 2, b"totals ");
-    report_kind(tally, 3, b"set ");
-    report_kind(tally, 4, b"set each ");
-    report_kind(tally, 5, b"remove ");
-    report_kind(tally, 6, b"compare ");
-    report_kind(tally, 7, b"get ");
-    report_kind(tally, 8, b"scan ");
-    report_kind(tally, 9, b"frame ");
-    report_kind(tally, 10, b"read frame ");
-    report_kind(tally, 11, b"put ");
-    report_kind(tally, 14, b"pack ");
-    report_kind(tally, 16, b"portion ");
-    tell(b"", at(tally, 0));
-    tell(b" calls, ", at(tally, 1));
-    tell(b" refused, ", at(tally, 2));
+    report_kind(tally, Kind::Open, b"open ");
+    report_kind(tally, Kind::Totals, b"totals ");
+    report_kind(tally, Kind::Set, b"set ");
+    report_kind(tally, Kind::SetEach, b"set each ");
+    report_kind(tally, Kind::Remove, b"remove ");
+    report_kind(tally, Kind::Compare, b"compare ");
+    report_kind(tally, Kind::Get, b"get ");
+    report_kind(tally, Kind::Scan, b"scan ");
+    report_kind(tally, Kind::Frame, b"frame ");
+    report_kind(tally, Kind::ReadFrame, b"read frame ");
+    report_kind(tally, Kind::Put, b"put ");
+    report_kind(tally, Kind::Pack, b"pack ");
+    report_kind(tally, Kind::Portion, b"portion ");
+    let all = tally.rows[0];
+    tell(b"", all.calls);
+    tell(b" calls, ", all.refused);
+    tell(b" refused, ", all.otherwise);
     say(b" answered otherwise\n");
 }
 
-fn report_kind(tally: &Tally, kind: usize, name: &[u8]) {
-    let i = times(3, kind);
-    tell(name, at(tally, i));
-    tell(b", refused ", at(tally, plus(i, 1)));
-    tell(b", otherwise ", at(tally, plus(i, 2)));
+fn report_kind(tally: &Tally, kind: Kind, name: &[u8]) {
+    let row = tally.rows[kind as usize];
+    tell(name, row.calls);
+    tell(b", refused ", row.refused);
+    tell(b", otherwise ", row.otherwise);
     say(b"\n");
 }

@@ -2,102 +2,122 @@
 // on as they are.
 #![tactic(auto)]
 
-use frame_text::WriteAnswer;
-use index_promise::{GetAnswer, PortionAnswer, ScanAnswer};
-use model::{Bound, Direction, Sift};
-use trial::{at, byte_at, plus, times};
+use model::{Bound, Direction, Refusal, Sift};
+use trial::{at, plus, times};
 use trial_lines::form::size;
 use trial_lines::line::list;
-use trial_lines::told::{Told, amiss, check_first, check_word, refused};
+use trial_lines::told::{Told, answered, check, check_word, refused};
 
 // What an output is filled with before a call.
 const FRESH: u8 = 170;
 
-// Lends so many bytes of room. The arguments are those behind the tree's number.
-pub fn look(pool: &[u8], tree: usize, kind: u64, args: &[u64], room: u64) -> Told {
-    let mut out = [FRESH; 4096];
-    if room > 4096 {
-        return amiss();
-    }
-    look_into(pool, tree, kind, args, &mut out[..room as usize])
+// The calls with an output.
+#[derive(Clone, Copy)]
+pub enum Query {
+    Get,
+    Scan,
+    Portion,
+    Frame,
 }
 
-fn look_into(pool: &[u8], tree: usize, kind: u64, args: &[u64], out: &mut [u8]) -> Told {
-    match kind {
-        7 => get(pool, tree, args, out),
-        8 => scan(pool, tree, args, out),
-        16 => portion(pool, tree, args, out),
-        _ => frame(pool, tree, args, out),
+// What a call has written: so many bytes, of which these are the answers.
+#[derive(Clone, Copy)]
+struct Written {
+    bytes: usize,
+    told: Told,
+}
+
+// Lends as many bytes of room as the call asks for. The arguments are those behind the tree's number.
+pub fn look(pool: &[u8], tree: usize, query: Query, args: &[u64]) -> Option<Told> {
+    let mut room = [FRESH; 4096];
+    let out = room.get_mut(..lent(query, args))?;
+    let answer = match query {
+        Query::Get => get(pool, tree, args, out),
+        Query::Scan => scan(pool, tree, args, out),
+        Query::Portion => portion(pool, tree, args, out),
+        Query::Frame => frame(pool, tree, args, out),
+    };
+    let written = answer.unwrap_or_else(nothing);
+    is_fresh(out, written.bytes).then_some(written.told)
+}
+
+// How many bytes of room a call asks for.
+fn lent(query: Query, args: &[u64]) -> usize {
+    let bytes = match query {
+        Query::Get => at(args, 0),
+        Query::Scan => at(args, 8),
+        Query::Portion => at(args, 7),
+        Query::Frame => at(args, 1),
+    };
+    bytes as usize
+}
+
+// A call that is refused writes nothing.
+fn nothing(why: Refusal) -> Written {
+    Written {
+        bytes: 0,
+        told: refused(why),
     }
 }
 
-fn get(pool: &[u8], tree: usize, args: &[u64], out: &mut [u8]) -> Told {
-    match index_look::get(pool, tree, list(args, 1), out) {
-        GetAnswer::Done(g) => {
-            let n = times(24, g.written);
-            let t = Told {
-                n: 4,
-                of: [
-                    0,
-                    g.written as u64,
-                    g.more as u64,
-                    check_first(out, n),
-                    0,
-                    0,
-                ],
-            };
-            written(out, n, t)
-        }
-        GetAnswer::Refused(n) => written(out, 0, refused(n)),
-    }
+fn get(pool: &[u8], tree: usize, args: &[u64], out: &mut [u8]) -> Result<Written, Refusal> {
+    let g = index_look::get(pool, tree, list(args, 1), out)?;
+    let bytes = times(24, g.written);
+    let check = check(first(out, bytes));
+    Ok(Written {
+        bytes,
+        told: answered(&[0, g.written as u64, g.more as u64, check]),
+    })
 }
 
-fn scan(pool: &[u8], tree: usize, args: &[u64], out: &mut [u8]) -> Told {
+fn scan(pool: &[u8], tree: usize, args: &[u64], out: &mut [u8]) -> Result<Written, Refusal> {
     let start = bound(args, 0);
     let end = bound(args, 3);
-    match index_look::scan(pool, tree, start, end, direction(args), sift(args, 7), out) {
-        ScanAnswer::Done(s) => {
-            let n = times(24, s.written);
-            let t = Told {
-                n: 5,
-                of: [
-                    0,
-                    s.written as u64,
-                    s.more as u64,
-                    s.opened as u64,
-                    check_first(out, n),
-                    0,
-                ],
-            };
-            written(out, n, t)
-        }
-        ScanAnswer::Refused(n) => written(out, 0, refused(n)),
-    }
+    let s = index_look::scan(pool, tree, start, end, direction(args), sift(args, 7), out)?;
+    let bytes = times(24, s.written);
+    let check = check(first(out, bytes));
+    Ok(Written {
+        bytes,
+        told: answered(&[0, s.written as u64, s.more as u64, s.opened as u64, check]),
+    })
 }
 
-fn portion(pool: &[u8], tree: usize, args: &[u64], out: &mut [u8]) -> Told {
+fn portion(pool: &[u8], tree: usize, args: &[u64], out: &mut [u8]) -> Result<Written, Refusal> {
     let start = bound(args, 0);
     let end = bound(args, 3);
-    match index_portion::portion(pool, tree, start, end, sift(args, 6), out) {
-        PortionAnswer::Done(p) => {
-            let s = p.scanned;
-            let next = p.next;
-            let n = times(24, s.written);
-            let t = Told {
-                n: 6,
-                of: [
-                    0,
-                    s.written as u64,
-                    s.more as u64,
-                    s.opened as u64,
-                    p.ended as u64,
-                    check_bound(check_first(out, n), next),
-                ],
-            };
-            written(out, n, t)
-        }
-        PortionAnswer::Refused(n) => written(out, 0, refused(n)),
-    }
+    let p = index_portion::portion(pool, tree, start, end, sift(args, 6), out)?;
+    let s = p.scanned;
+    let bytes = times(24, s.written);
+    let check = check_bound(check(first(out, bytes)), p.next);
+    Ok(Written {
+        bytes,
+        told: answered(&[
+            0,
+            s.written as u64,
+            s.more as u64,
+            s.opened as u64,
+            p.ended as u64,
+            check,
+        ]),
+    })
+}
+
+fn frame(pool: &[u8], tree: usize, args: &[u64], out: &mut [u8]) -> Result<Written, Refusal> {
+    let n = index_look::frame(pool, tree, at(args, 0) as usize, out)?;
+    Ok(Written {
+        bytes: n,
+        told: answered(&[0, n as u64, check(first(out, n))]),
+    })
+}
+
+// The first n bytes of an output.
+fn first(out: &[u8], n: usize) -> &[u8] {
+    out.get(..n).unwrap_or(out)
+}
+
+// No more than the first n bytes of an output are written.
+fn is_fresh(out: &[u8], n: usize) -> bool {
+    out.iter().skip(n).all(|b| *b == FRESH)
 }
 
 // The check goes on with a bound: bounded, included, key.
@@ -141,27 +161,4 @@ fn sift(args: &[u64], i: usize) -> Sift {
     } else {
         Sift::SizeAtLeast(least)
     }
-}
-
-fn frame(pool: &[u8], tree: usize, args: &[u64], out: &mut [u8]) -> Told {
-    match index_look::frame(pool, tree, at(args, 0) as usize, out) {
-        WriteAnswer::Done(n) => {
-            let t = Told {
-                n: 3,
-                of: [0, n as u64, check_first(out, n), 0, 0, 0],
-            };
-            written(out, n, t)
-        }
-        WriteAnswer::Refused(n) => written(out, 0, refused(n)),
-    }
-}
-
-// The answers, where no more than n bytes of the output are written.
-fn written(out: &[u8], n: usize, t: Told) -> Told {
-    for j in n..out.len() {
-        if byte_at(out, j) != FRESH {
-            return amiss();
-        }
-    }
-    t
 }

@@ -16,26 +16,27 @@
 #![tactic(auto)]
 
 use std::io::{Read, Stdin};
-use trial::{at, byte_at, plus, say, tell};
+use trial::{say, tell};
 use trial_calls::replay;
 use trial_lines::cases::Cases;
-use trial_lines::line::{Line, Numbers, is_empty, list, start, take};
+use trial_lines::line::{Call, Line, Numbers, is_empty, said, start, take};
 use trial_lines::pools::Pools;
 use trial_lines::tally::{Tally, count, report};
 use trial_lines::told::same;
-use trial_lines::{cases, line, pools};
+use trial_lines::{cases, pools, tally};
 
 // The longest pool of the list has 38,464 bytes.
 type Pool = [u8; 65536];
 
 // What is kept between two bytes of the list: which pool is at hand and how long both are, how many lines have ended, what is known of the
-// line, and what of the cases.
+// line, and what of the cases and the calls.
 #[derive(Clone, Copy)]
 struct State {
     pools: Pools,
     lines: u64,
-    line: Line,
+    line: Option<Line>,
     cases: Cases,
+    tally: Tally,
 }
 
 fn main(rt: HostRuntime) {
@@ -43,145 +44,87 @@ fn main(rt: HostRuntime) {
     let mut first = [0u8; 65536];
     let mut second = [0u8; 65536];
     let mut numbers = [0u64; 2048];
-    let mut tally = [0u64; 51];
     let mut s = State {
         pools: pools::none(),
         lines: 0,
         line: start(),
         cases: cases::none(),
+        tally: tally::none(),
     };
-    let mut turns = u64::MAX;
-    while turns > 0 {
-        let t = read_turn(
-            &mut input,
-            &mut first,
-            &mut second,
-            &mut numbers,
-            &mut tally,
-            s,
-        );
-        s = t.state;
-        if !t.more {
+    for _ in 0..u64::MAX {
+        if !read_turn(&mut input, &mut first, &mut second, &mut numbers, &mut s) {
             break;
         }
-        turns -= 1;
     }
     // the last line may lack its line feed
     if !is_empty(s.line) {
-        s = finish(&mut first, &mut second, &numbers, &mut tally, s);
+        finish(&mut first, &mut second, &numbers, &mut s);
     }
-    let c = cases::end(s.cases);
-    report(&tally);
-    cases::report(c);
+    cases::end(&mut s.cases);
+    report(&s.tally);
+    cases::report(s.cases);
 }
 
-// Whether there may be more to read, and what is kept until then.
-#[derive(Clone, Copy)]
-struct Turn {
-    more: bool,
-    state: State,
-}
-
-// One read from standard input.
+// One read from standard input. Answers whether there may be more to read.
 fn read_turn(
     input: &mut Stdin,
     first: &mut Pool,
     second: &mut Pool,
     numbers: &mut Numbers,
-    tally: &mut Tally,
-    s: State,
-) -> Turn {
+    s: &mut State,
+) -> bool {
     let mut buf = io::buffer();
     let n = input.read(&mut buf).unwrap_or(0);
-    if n == 0 {
-        return Turn {
-            more: false,
-            state: s,
-        };
+    for b in &buf[..n] {
+        feed(first, second, numbers, s, *b);
     }
-    Turn {
-        more: true,
-        state: feed(first, second, numbers, tally, s, &buf[..n]),
-    }
+    n > 0
 }
 
-// Another part of the list.
-fn feed(
-    first: &mut Pool,
-    second: &mut Pool,
-    numbers: &mut Numbers,
-    tally: &mut Tally,
-    before: State,
-    text: &[u8],
-) -> State {
-    let n = text.len();
-    let mut s = before;
-    for j in 0..n {
-        s = feed_byte(first, second, numbers, tally, s, byte_at(text, j));
-    }
-    s
-}
-
-fn feed_byte(
-    first: &mut Pool,
-    second: &mut Pool,
-    numbers: &mut Numbers,
-    tally: &mut Tally,
-    s: State,
-    b: u8,
-) -> State {
+// Another byte of the list.
+fn feed(first: &mut Pool, second: &mut Pool, numbers: &mut Numbers, s: &mut State, b: u8) {
     if b == b'\n' {
-        return finish(first, second, numbers, tally, s);
+        finish(first, second, numbers, s);
+    } else {
+        s.line = take(numbers, s.line, b);
     }
-    let mut r = s;
-    r.line = take(numbers, s.line, b);
-    r
 }
 
 // A line ends: it begins a case or a reading, it turns the pools round, or its call is done and counted.
-fn finish(
-    first: &mut Pool,
-    second: &mut Pool,
-    numbers: &Numbers,
-    tally: &mut Tally,
-    s: State,
-) -> State {
-    let call = line::whole(numbers, s.line);
-    let mut r = s;
-    r.line = start();
-    r.lines = std::num::wrapping_add_u64(s.lines, 1);
-    if cases::is_head(call) {
-        r.cases = cases::begin(s.cases, call);
-        return r;
+fn finish(first: &mut Pool, second: &mut Pool, numbers: &Numbers, s: &mut State) {
+    let line = said(numbers, s.line);
+    s.line = start();
+    s.lines = s.lines.wrapping_add(1);
+    if let Some(head) = line.and_then(cases::headed) {
+        cases::begin(&mut s.cases, head);
+    } else if line.is_some_and(pools::is_turn) {
+        s.pools = pools::turn(s.pools);
+    } else {
+        finish_call(first, second, line, s);
     }
-    if pools::is_turn(call) {
-        r.pools = pools::turn(s.pools);
-        return r;
-    }
-    let p = pools::lend(s.pools, at(call, 0), list(call, 1));
-    r.pools = p;
-    let ok = finish_call(first, second, tally, p, call);
+}
+
+// A line that could not be read is a call that is answered otherwise.
+fn finish_call(first: &mut Pool, second: &mut Pool, line: Option<Call>, s: &mut State) {
+    let ok = match line {
+        Some(call) => is_answered(first, second, call, s),
+        None => {
+            count(&mut s.tally, None, None, false);
+            false
+        }
+    };
     if !ok {
-        tell(b"line ", r.lines);
+        tell(b"line ", s.lines);
         say(b" answered otherwise\n");
     }
-    r.cases = cases::count(s.cases, ok);
-    r
+    cases::count(&mut s.cases, ok);
 }
 
 // Whether the call is answered as its line has it.
-fn finish_call(
-    first: &mut Pool,
-    second: &mut Pool,
-    tally: &mut Tally,
-    p: Pools,
-    call: &[u64],
-) -> bool {
-    let kind = at(call, 0);
-    let args = list(call, 1);
-    let answers = list(call, plus(2, args.len()));
-    let t = replay(first, second, p, kind, args);
-    let ok = same(t, answers);
-    count(tally, kind, t, ok);
+fn is_answered(first: &mut Pool, second: &mut Pool, call: Call, s: &mut State) -> bool {
+    s.pools = pools::lend(s.pools, call);
+    let told = replay(first, second, s.pools, call);
+    let ok = same(told, call.answers);
+    count(&mut s.tally, Some(call.kind), told, ok);
     ok
 }

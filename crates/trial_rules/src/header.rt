@@ -15,22 +15,13 @@ pub fn header_allows(pool: &[u8], of: Shape, i: usize, v: u64) -> bool {
 
 // A minimum may become any that half of the nodes' entries reach.
 fn minimum_allows(order: u64, v: u64) -> bool {
-    if order > 32 {
-        return false;
-    }
-    if v < 1 {
-        return false;
-    }
-    v <= (order + 1) / 2
+    order <= 32 && 1 <= v && v <= (order + 1) / 2
 }
 
 // An order, where `other` is that of the other tree. The larger one is told by the pool's length. An order that may become another one keeps the
 // minimum in limits, and no node of its tree has more entries.
 fn order_allows(pool: &[u8], of: Shape, tree: usize, other: usize, v: u64) -> bool {
-    if v < 4 {
-        return false;
-    }
-    if v > 32 {
+    if v < 4 || v > 32 {
         return false;
     }
     let changed = Shape {
@@ -38,18 +29,9 @@ fn order_allows(pool: &[u8], of: Shape, tree: usize, other: usize, v: u64) -> bo
         first: v as usize,
         second: other,
     };
-    if larger(changed) != larger(of) {
-        return false;
-    }
-    if !minimum_allows(v, minimum_of(pool, tree)) {
-        return false;
-    }
-    for s in 0..of.nodes {
-        if has_more(pool, of, tree, s, v) {
-            return false;
-        }
-    }
-    true
+    larger(changed) == larger(of)
+        && minimum_allows(v, minimum_of(pool, tree))
+        && !(0..of.nodes).any(|s| has_more(pool, of, tree, s, v))
 }
 
 fn minimum_of(pool: &[u8], tree: usize) -> u64 {
@@ -62,10 +44,7 @@ fn minimum_of(pool: &[u8], tree: usize) -> u64 {
 
 // Whether a slot is a node of this tree with more entries.
 fn has_more(pool: &[u8], of: Shape, tree: usize, s: usize, v: u64) -> bool {
-    if !is_node_of(tree, slot_word(pool, of, s, 0)) {
-        return false;
-    }
-    slot_word(pool, of, s, 1) > v
+    is_node_of(tree, slot_word(pool, of, s, 0)) && slot_word(pool, of, s, 1) > v
 }
 
 // The kinds of tree 0 are 1 and 2, those of tree 1 are 3 and 4.

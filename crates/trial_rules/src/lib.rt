@@ -13,7 +13,7 @@ use trial::{plus, times, word};
 // The words before the first slot.
 const HEADER: usize = 8;
 
-// The kinds of leaves: of tree 0, and of tree 1.
+// The kinds of leaves: of tree 0, and of tree 1. They are numbers, as every word of a pool is: a damaged one can be any.
 const LEAF: u64 = 1;
 
 const OTHER_LEAF: u64 = 3;
@@ -43,30 +43,16 @@ pub fn allows_both(pool: &[u8], of: Shape, i: usize, was: u64, v: u64) -> bool {
     if was == v {
         return true;
     }
-    if is_count(of, i) {
-        return false;
-    }
-    if !allows(pool, of, i, was, v) {
-        return false;
-    }
-    allows(pool, of, plus(i, 1), v, was)
+    !is_count(of, i) && allows(pool, of, i, was, v) && allows(pool, of, plus(i, 1), v, was)
 }
 
 fn is_count(of: Shape, i: usize) -> bool {
-    if i < HEADER {
-        return false;
-    }
-    let s = spot_of(of, i - HEADER);
-    s.part == 1
+    i >= HEADER && spot_of(of, i - HEADER).part == 1
 }
 
 // The larger order of the two.
 fn larger(of: Shape) -> usize {
-    if of.first < of.second {
-        of.second
-    } else {
-        of.first
-    }
+    of.first.max(of.second)
 }
 
 // The words of a slot: a freed one serves either tree.
@@ -136,90 +122,40 @@ fn is_root(slot: usize) -> bool {
 // A count tells which rows are zero, and a row of zeros can be none but the first: the entry of key 0, place 0 and size 0. A root may be
 // left empty.
 fn count_allows(pool: &[u8], of: Shape, slot: usize, was: u64, v: u64) -> bool {
-    if !is_root(slot) {
-        return false;
-    }
-    if was > 1 {
-        return false;
-    }
-    if v > 1 {
-        return false;
-    }
-    if slot_word(pool, of, slot, 2) != 0 {
-        return false;
-    }
-    if slot_word(pool, of, slot, 3) != 0 {
-        return false;
-    }
-    slot_word(pool, of, slot, 4) == 0
+    is_root(slot) && was <= 1 && v <= 1 && (2..5).all(|part| slot_word(pool, of, slot, part) == 0)
 }
 
 // Dead stays dead and live stays live, since the parent knows how many there are.
 fn place_allows(slot: usize, was: u64, v: u64) -> bool {
-    if is_root(slot) {
-        return true;
-    }
-    (was == 0) == (v == 0)
+    is_root(slot) || (was == 0) == (v == 0)
 }
 
 // A parent knows the sum of the live entries' sizes, so the size of a dead one is free; a size has 32 bits.
 fn size_allows(slot: usize, place: u64, v: u64) -> bool {
-    if !is_root(slot) {
-        if place != 0 {
-            return false;
-        }
-    }
-    v < 0x1_0000_0000
+    (is_root(slot) || place == 0) && v < 0x1_0000_0000
 }
 
 // A key keeps its rank among the keys of all leaves of its tree, and the greatest of a leaf is known to the parent.
 fn key_allows(pool: &[u8], of: Shape, slot: usize, row: usize, was: u64, v: u64) -> bool {
     let kind = slot_word(pool, of, slot, 0);
-    if !is_root(slot) {
-        if is_last(pool, of, slot, row) {
-            return false;
-        }
-    }
-    for s in 0..of.nodes {
-        if !keeps_rank(pool, of, kind, s, was, v) {
-            return false;
-        }
-    }
-    true
+    (is_root(slot) || !is_last(pool, of, slot, row))
+        && (0..of.nodes).all(|s| keeps_rank(pool, of, kind, s, was, v))
 }
 
 fn is_last(pool: &[u8], of: Shape, slot: usize, row: usize) -> bool {
     let count = slot_word(pool, of, slot, 1);
-    row as u64 >= std::num::wrapping_sub_u64(count, 1)
+    row as u64 >= count.wrapping_sub(1)
 }
 
 // Each other key of a leaf of this kind is on the same side of v as of `was`.
 fn keeps_rank(pool: &[u8], of: Shape, kind: u64, s: usize, was: u64, v: u64) -> bool {
-    if slot_word(pool, of, s, 0) != kind {
-        return true;
-    }
-    let rows = larger(of);
-    for j in 0..rows {
-        if rank_lost(pool, of, s, j, was, v) {
-            return false;
-        }
-    }
-    true
+    slot_word(pool, of, s, 0) != kind || !(0..larger(of)).any(|j| rank_lost(pool, of, s, j, was, v))
 }
 
 fn rank_lost(pool: &[u8], of: Shape, s: usize, j: usize, was: u64, v: u64) -> bool {
     if j as u64 >= slot_word(pool, of, s, 1) {
         return false;
     }
-    if j > 100 {
-        return false;
-    }
-    let k = slot_word(pool, of, s, 2 + 3 * j);
-    if k == was {
-        return false;
-    }
-    if k == v {
-        return true;
-    }
-    (k < was) != (k < v)
+    let k = slot_word(pool, of, s, plus(2, times(3, j)));
+    k != was && (k == v || (k < was) != (k < v))
 }

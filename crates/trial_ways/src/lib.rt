@@ -2,11 +2,10 @@
 // sound.
 #![tactic(auto)]
 
-use index_promise::TotalsAnswer;
-use trial::{put_word, tell, word};
+use trial::{plus, put_word, tell, word};
 use trial_rules::{Shape, allows, allows_both};
 
-// How a word is damaged.
+// How a word is damaged. The ways are numbers, since a damage that was not expected is told by its number.
 const WAYS: u64 = 10;
 
 // The last way exchanges the word and the next one.
@@ -14,10 +13,7 @@ const EXCHANGE: u64 = 9;
 
 // Whether the library takes the pool for sound, where it is asked for the totals of this tree.
 pub fn sound(pool: &[u8], tree: usize) -> bool {
-    match index_look::totals(pool, tree) {
-        TotalsAnswer::Done(_) => true,
-        TotalsAnswer::Refused(_) => false,
-    }
+    index_look::totals(pool, tree).is_ok()
 }
 
 // What was found: damages that left the word as it was; of the others those after which the pool was unsound, and those after which it was
@@ -32,17 +28,16 @@ pub struct Tally {
 
 // All words, one after the other.
 pub fn damage(pool: &mut [u8], of: Shape) -> Tally {
-    let n = pool.len() / 8;
-    let mut t = Tally {
+    let mut tally = Tally {
         idle: 0,
         unsound: 0,
         sound: 0,
         wrong: 0,
     };
-    for i in 0..n {
-        t = damage_word(pool, of, i, t);
+    for i in 0..pool.len() / 8 {
+        damage_word(pool, of, i, &mut tally);
     }
-    t
+    tally
 }
 
 pub fn report(words: usize, t: Tally) {
@@ -53,26 +48,25 @@ pub fn report(words: usize, t: Tally) {
     tell(b"; not as expected ", t.wrong);
 }
 
-fn damage_word(pool: &mut [u8], of: Shape, i: usize, before: Tally) -> Tally {
-    let mut t = before;
+fn damage_word(pool: &mut [u8], of: Shape, i: usize, tally: &mut Tally) {
     for way in 0..WAYS {
-        t = damage_once(pool, of, i, way, t);
+        damage_once(pool, of, i, way, tally);
     }
-    t
 }
 
 // One damage, asked of and put right.
-fn damage_once(pool: &mut [u8], of: Shape, i: usize, way: u64, t: Tally) -> Tally {
+fn damage_once(pool: &mut [u8], of: Shape, i: usize, way: u64, tally: &mut Tally) {
     let was = word(pool, i);
     if way == EXCHANGE {
-        return exchange(pool, of, i, was, t);
+        exchange(pool, of, i, was, tally);
+        return;
     }
     let v = damaged(was, way);
     let expected = allows(pool, of, i, was, v);
     put_word(pool, i, v);
     let found = sound(pool, asked(way));
     put_word(pool, i, was);
-    counted(t, was == v, found, expected, Place { i, way })
+    count(tally, was == v, found, expected, Place { i, way });
 }
 
 // The pool is asked for one tree and the other in turn.
@@ -81,22 +75,19 @@ fn asked(way: u64) -> usize {
 }
 
 // A word and the next are exchanged.
-fn exchange(pool: &mut [u8], of: Shape, i: usize, was: u64, t: Tally) -> Tally {
-    let n = pool.len() / 8;
-    if n < 2 {
-        return t;
+fn exchange(pool: &mut [u8], of: Shape, i: usize, was: u64, tally: &mut Tally) {
+    let next = plus(i, 1);
+    if next >= pool.len() / 8 {
+        return;
     }
-    if i >= n - 1 {
-        return t;
-    }
-    let v = word(pool, i + 1);
+    let v = word(pool, next);
     let expected = allows_both(pool, of, i, was, v);
     put_word(pool, i, v);
-    put_word(pool, i + 1, was);
+    put_word(pool, next, was);
     let found = sound(pool, asked(EXCHANGE));
     put_word(pool, i, was);
-    put_word(pool, i + 1, v);
-    counted(t, was == v, found, expected, Place { i, way: EXCHANGE })
+    put_word(pool, next, v);
+    count(tally, was == v, found, expected, Place { i, way: EXCHANGE });
 }
 
 // Which damage it is.
@@ -106,43 +97,33 @@ struct Place {
     way: u64,
 }
 
-fn counted(t: Tally, idle: bool, found: bool, expected: bool, p: Place) -> Tally {
-    if found == expected {
-        return sorted(t, idle, found);
+fn count(tally: &mut Tally, idle: bool, found: bool, expected: bool, place: Place) {
+    sort(tally, idle, found);
+    if found != expected {
+        tell(b"\nword ", place.i as u64);
+        tell(b", way ", place.way);
+        tally.wrong = tally.wrong.wrapping_add(1);
     }
-    tell(b"\nword ", p.i as u64);
-    tell(b", way ", p.way);
-    let mut r = sorted(t, idle, found);
-    r.wrong = more(r.wrong);
-    r
 }
 
-fn sorted(t: Tally, idle: bool, found: bool) -> Tally {
-    let mut r = t;
+fn sort(tally: &mut Tally, idle: bool, found: bool) {
     if idle {
-        r.idle = more(r.idle);
-        return r;
+        tally.idle = tally.idle.wrapping_add(1);
+    } else if found {
+        tally.sound = tally.sound.wrapping_add(1);
+    } else {
+        tally.unsound = tally.unsound.wrapping_add(1);
     }
-    if found {
-        r.sound = more(r.sound);
-        return r;
-    }
-    r.unsound = more(r.unsound);
-    r
-}
-
-fn more(n: u64) -> u64 {
-    std::num::wrapping_add_u64(n, 1)
 }
 
 // The ways, but for the exchange. Two more or two less make a kind that of the other tree; the last two move a number of live entries and a
 // child's slot by one.
 fn damaged(w: u64, way: u64) -> u64 {
     match way {
-        0 => std::num::wrapping_add_u64(w, 1),
-        1 => std::num::wrapping_sub_u64(w, 1),
-        2 => std::num::wrapping_add_u64(w, 2),
-        3 => std::num::wrapping_sub_u64(w, 2),
+        0 => w.wrapping_add(1),
+        1 => w.wrapping_sub(1),
+        2 => w.wrapping_add(2),
+        3 => w.wrapping_sub(2),
         4 => 0,
         5 => u64::MAX,
         6 => w ^ 0x8000_0000_0000_0000,

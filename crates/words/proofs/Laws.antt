@@ -5,6 +5,8 @@ use Prim.Native.Nat.{ℕ, zero, suc, ◌+◌, ◌*◌, ◌/◌, ◌%◌, ◌^◌
 use native.Mathlib.Nat.{le_of_suc-le-suc, not-suc-le-zero, zero-add, suc-add, pow-suc}
 use native.Mathlib.Omega.{arith}
 use mathlib.Core.List.{List, [], ◌∷◌, ◌++◌}
+use Rattle.std.specs.Int.{w64, byte_at, bytes_low_first, to_le_bytes}
+use Rattle.std.proofs.Math.Nat.{div-one, div-div-eq-div-mul}
 use lib.ListN.{length, take, drop, get_or, set, length-set, length-append, length-drop, take-append-drop}
 use lib.Seq.{drop-drop, take-append-le, drop-append-le, take_at, drop_at, length-take-le, set_split, drop-cons, sets, sets-eq, append_snoc, get_or-drop, drop-set-lt}
 use Rattle.words.specs.Words.{word, words_n, words, behind, spell, bytes_of, Same}
@@ -220,6 +222,22 @@ words_set l i v h hv =
     let b : length (take (8 * i) l ++ spell 8 v) ≡ 8 * suc i = length-append (take (8 * i) l) (spell 8 v) ∙ omega (arith, length_spell 8 v) in
     let cut = words_append (suc i) (take (8 * i) l ++ spell 8 v) (drop (8 * suc i) l) b in
     rw (cut, words_append i (take (8 * i) l) (spell 8 v) a, words_take i l (omega arith), words_spell v hv, words_drop (suc i) l (omega arith), append_snoc, set_split (words l) i v h)
+
+-- the library's bytes of a number are those that spell it
+
+byte_is : (n i : ℕ) → byte_at i n ≡ n / 256 ^ i % 256
+byte_is n zero = ap (λ (m : ℕ). m % 256) (sym (div-one n))
+byte_is n (suc i) = refl
+
+spelled_from : (n k i : ℕ) → bytes_low_first i k n ≡ spell k (n / 256 ^ i)
+unfolding spell
+spelled_from n zero i = refl
+spelled_from n (suc k) i =
+    let e : n / 256 ^ suc i ≡ n / 256 ^ i / 256 = ap (λ (m : ℕ). n / m) (pow-suc 256 i) ∙ sym (div-div-eq-div-mul n (256 ^ i) 256) in
+    rw (byte_is n i, spelled_from n k (suc i), e)
+
+pub spelled : (v : ℕ) → to_le_bytes w64 v ≡ spell 8 v
+spelled v = spelled_from v 8 0 ∙ ap (spell 8) (div-one v)
 
 pub words_written : (l : List ℕ) (i p v : ℕ) → i < length (words l) → p ≡ 8 * i → v < 2 ^ 64 → words (stores (set l p (v % 256)) p 1 (spell 7 (v / 256))) ≡ set (words l) i v
 unfolding spell

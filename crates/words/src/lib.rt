@@ -15,7 +15,7 @@ pub fn get(pool: &[u8], i: usize) -> u64
     ensures { result ≡ get_or (words pool.now) i 0 }
 {
     let p = place(pool, i);
-    le8(
+    u64::from_le_bytes([
         pool[p],
         pool[p + 1],
         pool[p + 2],
@@ -24,7 +24,7 @@ pub fn get(pool: &[u8], i: usize) -> u64
         pool[p + 5],
         pool[p + 6],
         pool[p + 7],
-    )
+    ])
 }
 
 // Sets the word at `i` to `v`.
@@ -34,21 +34,15 @@ pub fn put(pool: &mut [u8], i: usize, v: u64)
     ensures same { Same pool.old pool.new }
 {
     let p = place(pool, i);
-    let v1 = v / 256;
-    let v2 = v1 / 256;
-    let v3 = v2 / 256;
-    let v4 = v3 / 256;
-    let v5 = v4 / 256;
-    let v6 = v5 / 256;
-    let v7 = v6 / 256;
-    pool[p] = (v % 256) as u8;
-    pool[p + 1] = (v1 % 256) as u8;
-    pool[p + 2] = (v2 % 256) as u8;
-    pool[p + 3] = (v3 % 256) as u8;
-    pool[p + 4] = (v4 % 256) as u8;
-    pool[p + 5] = (v5 % 256) as u8;
-    pool[p + 6] = (v6 % 256) as u8;
-    pool[p + 7] = (v7 % 256) as u8;
+    let bytes = v.to_le_bytes();
+    pool[p] = bytes[0];
+    pool[p + 1] = bytes[1];
+    pool[p + 2] = bytes[2];
+    pool[p + 3] = bytes[3];
+    pool[p + 4] = bytes[4];
+    pool[p + 5] = bytes[5];
+    pool[p + 6] = bytes[6];
+    pool[p + 7] = bytes[7];
 }
 
 // The byte at which word `i` starts. It is a function so that its contract says once, for all eight
@@ -59,20 +53,4 @@ fn place(pool: &[u8], i: usize) -> usize
     ensures inside { result + 8 ≤ length pool.now }
 {
     8 * i
-}
-
-// The number that eight bytes spell, the lowest first. The contract nests the sums, as `word` does.
-// The body gives each byte its weight: of that form the compiler makes one load of eight bytes
-// early enough to make vectors of it in loops.
-fn le8(b0: u8, b1: u8, b2: u8, b3: u8, b4: u8, b5: u8, b6: u8, b7: u8) -> u64
-    ensures { result ≡ b0 + 256 * (b1 + 256 * (b2 + 256 * (b3 + 256 * (b4 + 256 * (b5 + 256 * (b6 + 256 * b7)))))) }
-{
-    b0 as u64
-        + 0x100 * (b1 as u64)
-        + 0x1_0000 * (b2 as u64)
-        + 0x100_0000 * (b3 as u64)
-        + 0x1_0000_0000 * (b4 as u64)
-        + 0x100_0000_0000 * (b5 as u64)
-        + 0x1_0000_0000_0000 * (b6 as u64)
-        + 0x100_0000_0000_0000 * (b7 as u64)
 }

@@ -2,10 +2,11 @@
 -- Assumes nothing.
 use mathlib.Core.Path.{◌≡◌, refl, sym, ap, ◌∙◌}
 use mathlib.Core.Bool.{true, false, ◌&&◌, and_assoc, and-true}
-use Prim.Native.Nat.{ℕ, zero, suc, ◌+◌, ◌-◌, ◌≤◌, ◌<◌}
+use Prim.Native.Nat.{ℕ, zero, suc, ◌+◌, ◌-◌, ◌≤◌, ◌<◌, min}
 use native.Mathlib.Nat.{not-suc-le-zero}
 use native.Mathlib.Numerals.{add-one}
 use native.Mathlib.Omega.{arith}
+use native.Mathlib.Decide.{dec_lt}
 use mathlib.Core.List.{List, [], ◌∷◌, ◌++◌, append_assoc, append-nil}
 use lib.ListN.{length, take, drop, get_or, set, replicate, length-append, length-drop, length-replicate, replicate-append-replicate, take-append-drop, get_or-append}
 use lib.Seq.{paste, paste-zero, paste-suc, drop-paste, get_or-drop, get_or-take, drop-cons, take-suc, set_at, append_snoc, length-take-le, take-add, drop-drop}
@@ -131,13 +132,31 @@ zero_block W from n k m h =
     let d : from + (k + m) ≡ from + k + m = omega arith in
     rw (e, d, take-add m (n - (k + m)) (drop (from + k) W), zero_append, drop-drop)
 
--- a block of zeros is passed
-pub zero_pass : (W : List ℕ) (from n k m : ℕ) → k + m ≤ n → true ≡ all_zero (take m (drop (from + k) W)) → all_zero (take (n - k) (drop (from + k) W)) ≡ all_zero (take (n - (k + m)) (drop (from + (k + m)) W))
-zero_pass W from n k m h z = zero_block W from n k m h ∙ rw (← z)
+-- a block of b words, or of those that are left, is passed where they are zeros
+pub zero_pass : (W : List ℕ) (from n k b : ℕ) → k < n → true ≡ all_zero (take (min b (n - k)) (drop (from + k) W))
+    → all_zero (take (n - k) (drop (from + k) W)) ≡ all_zero (take (n - (k + b)) (drop (from + (k + b)) W))
+unfolding all_zero
+zero_pass W from n k b h z = by (dec_lt n (k + b))
+  where
+    by : Dec (n < k + b) → all_zero (take (n - k) (drop (from + k) W)) ≡ all_zero (take (n - (k + b)) (drop (from + (k + b)) W))
+    by (yes l) =
+        let m : min b (n - k) ≡ n - k = omega arith in
+        let e : n - (k + b) ≡ 0 = omega arith in
+        sym (rw m at z) ∙ rw e refl
+    by (no l) =
+        let m : min b (n - k) ≡ b = omega arith in
+        let y : true ≡ all_zero (take b (drop (from + k) W)) = rw m at z in
+        zero_block W from n k b (omega arith) ∙ rw (← y)
 
 -- any other block decides
-pub zero_stop : (W : List ℕ) (from n k m : ℕ) → k + m ≤ n → false ≡ all_zero (take m (drop (from + k) W)) → all_zero (take (n - k) (drop (from + k) W)) ≡ false
-zero_stop W from n k m h z = zero_block W from n k m h ∙ rw (← z)
+pub zero_stop : (W : List ℕ) (from n k b : ℕ) → k < n → false ≡ all_zero (take (min b (n - k)) (drop (from + k) W))
+    → all_zero (take (n - k) (drop (from + k) W)) ≡ false
+zero_stop W from n k b h z = zero_block W from n k (min b (n - k)) (omega arith) ∙ rw (← z)
+
+-- and behind the last there is none
+pub zero_end : (W : List ℕ) (from n k : ℕ) → n ≤ k → all_zero (take (n - k) (drop (from + k) W)) ≡ true
+unfolding all_zero
+zero_end W from n k h = let e : n - k ≡ 0 = omega arith in rw e refl
 
 -- ---- `all_zero` of a block: `bits` joins the first k words
 

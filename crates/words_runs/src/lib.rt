@@ -29,11 +29,9 @@ pub fn bring(pool: &mut [u8], source: &[u8], from: usize, to: usize, n: usize)
     ensures words { words pool.new ≡ brought (words source.now) (words pool.old) from to n }
     ensures same { Same pool.old pool.new }
 {
-    let mut k = 0;
-    while k < n {
+    for k in 0..n {
         let w = get(source, from + k);
         put(pool, to + k, w);
-        k += 1;
     }
 }
 
@@ -43,10 +41,8 @@ pub fn clear(pool: &mut [u8], from: usize, n: usize)
     ensures words { words pool.new ≡ cleared (words pool.old) from n }
     ensures same { Same pool.old pool.new }
 {
-    let mut k = 0;
-    while k < n {
+    for k in 0..n {
         put(pool, from + k, 0);
-        k += 1;
     }
 }
 
@@ -60,14 +56,12 @@ pub fn all_zero(pool: &[u8], from: usize, n: usize) -> bool
     requires { from + n ≤ length (words pool.now) }
     ensures { result ≡ all_zero (take n (drop from (words pool.now))) }
 {
-    let mut k = 0;
-    while BLOCK <= n - k {
-        if !zeros(pool, from + k, BLOCK) {
+    for k in (0..n).step_by(BLOCK) {
+        if !zeros(pool, from + k, BLOCK.min(n - k)) {
             return false;
         }
-        k += BLOCK;
     }
-    zeros(pool, from + k, n - k)
+    true
 }
 
 // The same of one block, or of what is left after the last. The bits of the words are joined, and
@@ -77,10 +71,8 @@ fn zeros(pool: &[u8], from: usize, n: usize) -> bool
     ensures { result ≡ all_zero (take n (drop from (words pool.now))) }
 {
     let mut bits = 0;
-    let mut k = 0;
-    while k < n {
-        bits = bits | get(pool, from + k);
-        k += 1;
+    for k in 0..n {
+        bits |= get(pool, from + k);
     }
     bits == 0
 }
@@ -92,25 +84,21 @@ fn move_up(pool: &mut [u8], from: usize, to: usize, n: usize)
     ensures words { words pool.new ≡ moved (words pool.old) from to n }
     ensures same { Same pool.old pool.new }
 {
-    let mut k = n;
-    while 0 < k {
-        k -= 1;
+    for k in (0..n).rev() {
         let w = get(pool, from + k);
         put(pool, to + k, w);
     }
 }
 
-// Copies the `n` words from `from` on to `to`, which is below: from the first word up.
+// Copies the `n` words from `from` on to `to`, which is below: from the first word up. (Not by `bring`: a pool cannot be lent twice, once to be written.)
 fn move_down(pool: &mut [u8], from: usize, to: usize, n: usize)
     requires down { to ≤ from }
     requires source { from + n ≤ length (words pool.old) }
     ensures words { words pool.new ≡ moved (words pool.old) from to n }
     ensures same { Same pool.old pool.new }
 {
-    let mut k = 0;
-    while k < n {
+    for k in 0..n {
         let w = get(pool, from + k);
         put(pool, to + k, w);
-        k += 1;
     }
 }

@@ -12,10 +12,10 @@ returns-then-count-eq1 c = alone_ended _ _ _ c.requires.steps (sym c.count.ensur
 
 pub join_children-spare-requires : goal.join_children-spare-requires
 join_children-spare-requires c =
-    let it = absorb_asks _ _ _ c.requires.steps c.requires.says (λ e. c.if-count-eq1.false (c.count.ensures.is ∙ e)) c.one_back-at.ensures in
+    let it = absorb_asks _ _ _ c.requires.steps c.requires.says (λ e. c.if-count-eq1.false (c.count.ensures.is ∙ e)) c.one_back.ensures in
     record { neighbours = it.0; lower = it.1.0; upper = it.1.1.0; spared = it.1.1.1 }
 
 pub returns : goal.returns
 returns c =
-    absorbed _ _ _ _ c.requires.steps (λ e. c.if-count-eq1.false (c.count.ensures.is ∙ e)) c.one_back-at.ensures
+    absorbed _ _ _ _ c.requires.steps (λ e. c.if-count-eq1.false (c.count.ensures.is ∙ e)) c.one_back.ensures
     c.join_children-spare.ensures

@@ -7,8 +7,8 @@ use Rattle.batch_join.proofs.join_children.Goals as goal
 pub child_len-requires : goal.child_len-requires
 child_len-requires c = sits_lower c.requires.neighbours
 
-pub overflow_add-i : goal.overflow_add-i
-overflow_add-i c = omega (arith, beside_few c.requires.neighbours)
+pub overflow_add-next : goal.overflow_add-next
+overflow_add-next c = omega (arith, beside_few c.requires.neighbours)
 
 pub child_len-requires-2 : goal.child_len-requires-2
 child_len-requires-2 c = sits_upper c.requires.neighbours

@@ -9,8 +9,8 @@ use Rattle.batch_join.proofs.merge.Goals as goal
 pub child_at-p-requires : goal.child_at-p-requires
 child_at-p-requires c = sits_row (sits_lower c.requires.neighbours)
 
-pub overflow_add-i : goal.overflow_add-i
-overflow_add-i c = omega (arith, beside_few c.requires.neighbours)
+pub overflow_add-at : goal.overflow_add-at
+overflow_add-at c = omega (arith, beside_few c.requires.neighbours)
 
 pub child_at-c-requires : goal.child_at-c-requires
 child_at-c-requires c = sits_row (sits_upper c.requires.neighbours)
@@ -20,8 +20,8 @@ join-requires c =
     let t = c.requires.neighbours in
     can_join t _ _ (lower_named t c.child_at-p.ensures).is (upper_named t c.child_at-c.ensures).is (omega (arith, c.requires.fits))
 
-pub overflow_add-i-2 : goal.overflow_add-i-2
-overflow_add-i-2 c =
+pub overflow_add-at-2 : goal.overflow_add-at-2
+overflow_add-at-2 c =
     omega (arith, beside_few c.requires.neighbours)
 
 pub remove_row-requires : goal.remove_row-requires

@@ -12,13 +12,13 @@ loop-st-init c = (turn_start c.requires.0 c.requires.1, refl)
 pub takes-requires : goal.takes-requires
 takes-requires c = let t = c.loop-st.invariant.0 in record { held = t.did.held; slot = t.slot }
 
-pub offset_bounds-keys-next : goal.offset_bounds-keys-next
-offset_bounds-keys-next c =
+pub offset_bounds-batch-next : goal.offset_bounds-batch-next
+offset_bounds-batch-next c =
     let t = c.loop-st.invariant.0 in
     omega (arith, turn_within t (sym c.takes.ensures ∙ c.loop-st-test.true), t.batch.short)
 
-pub bounds-keys-next : goal.bounds-keys-next
-bounds-keys-next c =
+pub bounds-batch-next : goal.bounds-batch-next
+bounds-batch-next c =
     turn_within c.loop-st.invariant.0 (sym c.takes.ensures ∙ c.loop-st-test.true)
 
 pub wish_at-wish-requires : goal.wish_at-wish-requires

@@ -4,13 +4,13 @@ use mathlib.Core.Path.{◌≡◌}
 use Prim.Native.Nat.{◌-◌}
 use lib.ListN.{length}
 use Rattle.words.specs.Words.{words}
-use Rattle.model.specs.Refuse.{call}
+use Rattle.model.specs.Refuse.{called}
 use Rattle.batch_leaf.proofs.Turns.{Turn}
 use Rattle.batch_leaf.proofs.take_keys.Given as goal
 
 abbrev pub invariant-loop-st : goal.invariant-loop-st
 invariant-loop-st l =
-    Turn l.st (words l.initial.pool) (words l.pool) l.leaf (call l.op l.places l.sizes l.keys) l.initial.now l.changed l.now × (length l.pool ≡ length l.initial.pool)
+    Turn l.st (words l.initial.pool) (words l.pool) l.leaf (called l.batch) l.initial.now l.changed l.now × (length l.pool ≡ length l.initial.pool)
 
 abbrev pub decreases-loop-st : goal.decreases-loop-st
-decreases-loop-st l = length l.keys - l.now.next
+decreases-loop-st l = length l.batch.keys.now - l.now.next

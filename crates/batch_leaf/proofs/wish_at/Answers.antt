@@ -4,25 +4,25 @@ use native.Mathlib.Omega.{arith}
 use Rattle.batch_leaf.proofs.Tasks.{lent_each}
 use Rattle.batch_leaf.proofs.wish_at.Goals as goal
 
-pub offset_bounds-places-i : goal.offset_bounds-places-i
-offset_bounds-places-i c =
+pub offset_bounds-batch-i : goal.offset_bounds-batch-i
+offset_bounds-batch-i c =
     let a = c.args in
-    omega (arith, lent_each a.places.now a.sizes.now (a.i + 1) c.in-SetEach.is c.requires)
+    omega (arith, lent_each a.batch.now.places.now a.batch.now.sizes.now (a.i + 1) c.in-SetEach.is c.requires)
 
-pub bounds-places-i : goal.bounds-places-i
-bounds-places-i c =
+pub bounds-batch-i : goal.bounds-batch-i
+bounds-batch-i c =
     let a = c.args in
-    omega (arith, lent_each a.places.now a.sizes.now (a.i + 1) c.in-SetEach.is c.requires)
+    omega (arith, lent_each a.batch.now.places.now a.batch.now.sizes.now (a.i + 1) c.in-SetEach.is c.requires)
 
-pub offset_bounds-sizes-i : goal.offset_bounds-sizes-i
-offset_bounds-sizes-i c =
+pub offset_bounds-batch-i-in-SetEach : goal.offset_bounds-batch-i-in-SetEach
+offset_bounds-batch-i-in-SetEach c =
     let a = c.args in
-    omega (arith, lent_each a.places.now a.sizes.now (a.i + 1) c.in-SetEach.is c.requires)
+    omega (arith, lent_each a.batch.now.places.now a.batch.now.sizes.now (a.i + 1) c.in-SetEach.is c.requires)
 
-pub bounds-sizes-i : goal.bounds-sizes-i
-bounds-sizes-i c =
+pub bounds-batch-i-in-SetEach : goal.bounds-batch-i-in-SetEach
+bounds-batch-i-in-SetEach c =
     let a = c.args in
-    omega (arith, lent_each a.places.now a.sizes.now (a.i + 1) c.in-SetEach.is c.requires)
+    omega (arith, lent_each a.batch.now.places.now a.batch.now.sizes.now (a.i + 1) c.in-SetEach.is c.requires)
 
 pub returns-in-Set : goal.returns-in-Set
 returns-in-Set c = rw c.in-Set.is

@@ -5,7 +5,7 @@ use mathlib.Core.Path.{◌≡◌, refl, sym, ◌∙◌, subst}
 use native.Mathlib.Omega.{arith}
 use lib.ListN.{length}
 use Rattle.words.specs.Words.{words}
-use Rattle.model.specs.Refuse.{call}
+use Rattle.model.specs.Refuse.{called}
 use Rattle.batch_node.specs.Promises.{ToChange, NodeChanged}
 use Rattle.batch_node.proofs.Rounds.{Sent, round_start, round_at, round, next_in, child_in, child_call, pending, round_again, round_less, round_end}
 use borrow.Author.Rules.{rules}
@@ -20,14 +20,14 @@ interior_change-roaming-init t c = (round_start c.requires.asked, refl)
 pub interior_change-roams_on-requires : goal.interior_change-roams_on-requires
 interior_change-roams_on-requires t c = round_at c.roaming.invariant.0
 
-pub interior_change-offset_bounds-keys-next : goal.interior_change-offset_bounds-keys-next
-interior_change-offset_bounds-keys-next t c =
-    let keys = c.args.keys.now in
+pub interior_change-offset_bounds-batch-next : goal.interior_change-offset_bounds-batch-next
+interior_change-offset_bounds-batch-next t c =
+    let keys = c.args.batch.now.keys.now in
     let w : c.roaming.now.next < length keys = next_in c.roaming.invariant.0 (sym c.roams_on.ensures ∙ c.roaming-test.true) in
     omega arith
 
-pub interior_change-bounds-keys-next : goal.interior_change-bounds-keys-next
-interior_change-bounds-keys-next t c =
+pub interior_change-bounds-batch-next : goal.interior_change-bounds-batch-next
+interior_change-bounds-batch-next t c =
     next_in c.roaming.invariant.0 (sym c.roams_on.ensures ∙ c.roaming-test.true)
 
 pub interior_change-child_for-j-requires : goal.interior_change-child_for-j-requires
@@ -49,7 +49,7 @@ pub interior_change-node_change-r-requires : goal.interior_change-node_change-r-
 interior_change-node_change-r-requires t c = (
   omega (arith, c.decreases),
   child_call (let it : let a = c.args in
-      Sent a.st (words a.pool.now) (words c.roaming.pool) (a.node.height - 1) a.node (call a.op a.places.now a.sizes.now a.keys.now)
+      Sent a.st (words a.pool.now) (words c.roaming.pool) (a.node.height - 1) a.node (called a.batch.now)
       a.run c.roaming.i c.roaming.changed c.roaming.now c.child_for-j.result c.row_at-row.result c.child_of.result
       c.ceiling_for.result = record {
         round = round c.roaming.invariant.0 (sym c.roams_on.ensures ∙ c.roaming-test.true);
@@ -63,7 +63,7 @@ interior_change-node_change-r-requires t c = (
 pub interior_change-settle_child-to-requires : goal.interior_change-settle_child-to-requires
 interior_change-settle_child-to-requires t c =
     pending (let it : let a = c.args in
-    Sent a.st (words a.pool.now) (words c.roaming.pool) (a.node.height - 1) a.node (call a.op a.places.now a.sizes.now a.keys.now)
+    Sent a.st (words a.pool.now) (words c.roaming.pool) (a.node.height - 1) a.node (called a.batch.now)
     a.run c.roaming.i c.roaming.changed c.roaming.now c.child_for-j.result c.row_at-row.result c.child_of.result
     c.ceiling_for.result = record {
       round = round c.roaming.invariant.0 (sym c.roams_on.ensures ∙ c.roaming-test.true);
@@ -83,7 +83,7 @@ interior_change-roaming-smaller t c =
       arith,
       came.batch.within,
       round_less (let it : let a = c.args in
-          Sent a.st (words a.pool.now) (words c.roaming.pool) (a.node.height - 1) a.node (call a.op a.places.now a.sizes.now a.keys.now)
+          Sent a.st (words a.pool.now) (words c.roaming.pool) (a.node.height - 1) a.node (called a.batch.now)
           a.run c.roaming.i c.roaming.changed c.roaming.now c.child_for-j.result c.row_at-row.result c.child_of.result
           c.ceiling_for.result = record {
             round = round c.roaming.invariant.0 (sym c.roams_on.ensures ∙ c.roaming-test.true);
@@ -97,7 +97,7 @@ interior_change-roaming-smaller t c =
 pub interior_change-roaming-preserved : goal.interior_change-roaming-preserved
 interior_change-roaming-preserved t c = (
   round_again (let it : let a = c.args in
-      Sent a.st (words a.pool.now) (words c.roaming.pool) (a.node.height - 1) a.node (call a.op a.places.now a.sizes.now a.keys.now)
+      Sent a.st (words a.pool.now) (words c.roaming.pool) (a.node.height - 1) a.node (called a.batch.now)
       a.run c.roaming.i c.roaming.changed c.roaming.now c.child_for-j.result c.row_at-row.result c.child_of.result
       c.ceiling_for.result = record {
         round = round c.roaming.invariant.0 (sym c.roams_on.ensures ∙ c.roaming-test.true);
@@ -126,7 +126,7 @@ interior_change-returns t c =
 pub node_change-leaf_change-requires : goal.node_change-leaf_change-requires
 node_change-leaf_change-requires t c =
     let a = c.args in
-    subst (λ (n : ℕ). ToChange a.st (words a.pool.now) n a.node (call a.op a.places.now a.sizes.now a.keys.now) a.run)
+    subst (λ (n : ℕ). ToChange a.st (words a.pool.now) n a.node (called a.batch.now) a.run)
     c.if-node-eq0.true c.requires
 
 pub node_change-shape_of-pool-then-node-eq0 : goal.node_change-shape_of-pool-then-node-eq0
@@ -138,7 +138,7 @@ node_change-returns-then-node-eq0 t c =
     let W = words a.pool.now in
     let W' = words c.leaf_change.new.pool in
     let r = c.leaf_change.result in
-    subst (λ (n : ℕ). NodeChanged a.st W W' n a.node (call a.op a.places.now a.sizes.now a.keys.now) a.run r)
+    subst (λ (n : ℕ). NodeChanged a.st W W' n a.node (called a.batch.now) a.run r)
     (sym c.if-node-eq0.true) c.leaf_change.ensures
 
 pub node_change-interior_change-requires : goal.node_change-interior_change-requires
@@ -148,7 +148,7 @@ node_change-interior_change-requires t c =
       omega (arith, c.decreases),
       (
         omega (arith, c.if-node-eq0.false),
-        subst (λ (n : ℕ). ToChange a.st (words a.pool.now) n a.node (call a.op a.places.now a.sizes.now a.keys.now) a.run)
+        subst (λ (n : ℕ). ToChange a.st (words a.pool.now) n a.node (called a.batch.now) a.run)
             e c.requires,
       ),
     )
@@ -163,5 +163,5 @@ node_change-returns t c =
     let W' = words c.interior_change.new.pool in
     let r = c.interior_change.result in
     let e : a.node.height ≡ suc (a.node.height - 1) = omega (arith, c.if-node-eq0.false) in
-    subst (λ (n : ℕ). NodeChanged a.st W W' n a.node (call a.op a.places.now a.sizes.now a.keys.now) a.run r)
+    subst (λ (n : ℕ). NodeChanged a.st W W' n a.node (called a.batch.now) a.run r)
     (sym e) c.interior_change.ensures

@@ -4,7 +4,7 @@ use Prim.Native.Nat.{◌+◌, ◌-◌, ◌*◌}
 use mathlib.Core.Path.{◌≡◌}
 use lib.ListN.{length}
 use Rattle.words.specs.Words.{words}
-use Rattle.model.specs.Refuse.{call}
+use Rattle.model.specs.Refuse.{called}
 use Rattle.batch_node.proofs.Rounds.{Roaming}
 use Rattle.batch_node.proofs.+interior_change_node_change.Given as goal
 
@@ -17,8 +17,8 @@ decreases-node_change l = 2 * l.node.height + 2
 
 abbrev pub invariant-interior_change-roaming : goal.invariant-interior_change-roaming
 invariant-interior_change-roaming l =
-    Roaming l.st (words l.initial.pool) (words l.pool) (l.node.height - 1) l.node (call l.op l.places l.sizes l.keys) l.initial.now l.i l.changed l.now × (length l.pool ≡ length l.initial.pool)
+    Roaming l.st (words l.initial.pool) (words l.pool) (l.node.height - 1) l.node (called l.batch) l.initial.now l.i l.changed l.now × (length l.pool ≡ length l.initial.pool)
 
 abbrev pub decreases-interior_change-roaming : goal.decreases-interior_change-roaming
 decreases-interior_change-roaming l =
-    length l.keys - l.now.next
+    length l.batch.keys.now - l.now.next

@@ -15,11 +15,11 @@ child_at-c-requires c = let t = c.requires in record { held = t.held; slot = t.p
 pub renew-requires : goal.renew-requires
 renew-requires c =
     let a = c.args in
-    subst (λ (x : ℕ). ToRenew a.st (words a.pool.now) a.below a.s a.i x) (sym c.child_at-c.ensures) c.requires
+    subst (λ (x : ℕ). ToRenew a.st (words a.pool.now) a.at.height a.at.parent a.at.row x) (sym c.child_at-c.ensures) c.requires
 
 pub returns : goal.returns
 returns c =
     let a = c.args in
     let W = words a.pool.now in
     become a.st W (words c.renew.new.pool) _ _ c.renew.ensures
-    (ap (λ (x : ℕ). renewed (nodes a.st W) a.below a.s a.i x) c.child_at-c.ensures)
+    (ap (λ (x : ℕ). renewed (nodes a.st W) a.at.height a.at.parent a.at.row x) c.child_at-c.ensures)

@@ -21,7 +21,7 @@ returns-then-n-gt-LONGEST c =
     (told (refusing l 15) s.result l t s.new.bytes s.ensures.end refl s.ensures.written)
 
 pub slice_bounds-read_order-end : goal.slice_bounds-read_order-end
-slice_bounds-read_order-end c = sym (length-take-le _ _ (omega (arith, c.bytes-1.given, c.if-n-gt-LONGEST.false)))
+slice_bounds-read_order-end c = sym (length-take-le _ _ (omega (arith, c.told-line, c.if-n-gt-LONGEST.false)))
 
 pub set_rows-requires : goal.set_rows-requires
 set_rows-requires c =

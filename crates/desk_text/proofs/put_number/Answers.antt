@@ -10,13 +10,6 @@ use native.Mathlib.Omega.{arith}
 use borrow.Author.Rules.{rules}
 use Rattle.desk_text.proofs.put_number.Goals as goal
 
-pub put-requires : goal.put-requires
-put-requires c =
-    let d = c.decimal-k.ensures in
-    let e = c.put-behind.ensures in
-    let few = few_digits c.args.n _ (search (rules, c.ranges)) d.len in
-    omega (arith, d.in_bounds.0, d.in_bounds.1, e.end, c.requires, c.put-behind.auto.bytes, few)
-
 pub returns : goal.returns
 returns c =
     let a = c.args in

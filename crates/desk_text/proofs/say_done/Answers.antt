@@ -13,8 +13,8 @@ number : (n : ℕ) {at end : ℕ} {t t' : List ℕ} → at + 21 ≤ length t
     → end ≡ at + length (spaced n) → end ≤ at + 21 → t' ≡ over at (spaced n) t → Put at (spaced n) t end t'
 number n room ends short written = record { room = omega (arith, room, ends, short); ends = ends; bytes = written }
 
-pub returns : goal.returns
-returns c =
+pub returns-clause-written : goal.returns-clause-written
+returns-clause-written c =
     let counts = c.args.c in
     let w = c.put-word in
     let n1 = c.put_number-added in
@@ -41,4 +41,4 @@ returns c =
     let q4 = behind q3 p4 in
     let p5 : Put n4.result line_feed n4.new.bytes l.result l.new.bytes =
     record { room = omega (arith, c.requires, r3, n4.ensures.short, put_length q4); ends = l.ensures.end; bytes = l.ensures.written } in
-    let all = behind q4 p5 in record { end = omega (arith, all.ends); written = all.bytes }
+    (behind q4 p5).bytes

@@ -1,49 +1,60 @@
 -- `read` meets its contract: one law for each of its answers. Assumes nothing.
-use mathlib.Core.Path.{◌≡◌, sym, ◌∙◌}
-use mathlib.Core.Bool.{true}
-use Prim.Native.Nat.{◌*◌, ◌/◌}
+use mathlib.Core.Path.{◌≡◌, sym, ap, subst, ◌∙◌}
+use mathlib.Core.Bool.{Bool, true, false, not}
+use mathlib.Core.List.{List}
+use Prim.Native.Nat.{ℕ, ◌*◌, ◌/◌}
 use native.Mathlib.Omega.{arith}
 use lib.ListN.{length}
 use borrow.Author.Tests.{not-true, not-false}
+use Rattle.std.specs.Prelude.{Result, Err}
+use Rattle.std.proofs.lemmas.Result.{err_from_is_err_and}
+use Rattle.model.specs.declared.Refusal.{Refusal}
+use Rattle.model.specs.declared.Refusal.TheVariants as Why
+use Rattle.model.specs.ReadFrame.{read_line}
+use Rattle.frame_text.specs.declared.Contents.{Contents}
+use Rattle.frame_text.specs.Answers.{Reads}
 use Rattle.frame_text.specs.Digits.{is_hex}
-use Rattle.frame_text.proofs.Told.{read_as, line_empty, line_other, line_leaf, line_interior, line_unknown}
+use Rattle.frame_text.proofs.Told.{read_as, read_refused, line_empty, line_other, line_kind, line_unknown}
 use Rattle.frame_text.proofs.Spelt.{hex_even}
 use Rattle.frame_read.proofs.read.Goals as goal
 
+-- a line that is not empty and has only digits, two a byte
+record Spelling (l : List ℕ) : Type 0 where
+  digits : is_hex l ≡ true
+  whole : 2 * (length l / 2) ≡ length l
+
+spelling : (l : List ℕ) (b : Bool) → b ≡ is_hex l → not b ≡ false → Spelling l
+spelling l b e t = let digits : is_hex l ≡ true = sym e ∙ not-false b t in record { digits = digits; whole = hex_even l digits }
+
 pub returns-then-line-eq0 : goal.returns-then-line-eq0
-returns-then-line-eq0 c = read_as c.refusal.result (line_empty c.args.line.now c.if-line-eq0.true) c.refusal.ensures
+returns-then-line-eq0 c = read_refused Why.EmptyLine (line_empty c.args.line.now c.if-line-eq0.true)
 
 pub returns-then-not-is_hex : goal.returns-then-not-is_hex
 returns-then-not-is_hex c =
-    read_as c.refusal-then-not-is_hex.result
-    (line_other c.args.line.now (sym c.is_hex.ensures ∙ not-true c.is_hex.result c.if-not-is_hex.true-raw))
-    c.refusal-then-not-is_hex.ensures
+    read_refused Why.NotHex (line_other c.args.line.now (sym c.is_hex.ensures ∙ not-true c.is_hex.result c.if-not-is_hex.true-raw))
 
-pub number-header-requires : goal.number-header-requires
-number-header-requires c = record { digits = (let it : is_hex c.args.line.now ≡ true = sym c.is_hex.ensures ∙ not-false c.is_hex.result c.if-not-is_hex.false-raw in it); within = omega (arith, (let it : let l = c.args.line.now in 2 * (length l / 2) ≡ length l = hex_even c.args.line.now (let it : is_hex c.args.line.now ≡ true = sym c.is_hex.ensures ∙ not-false c.is_hex.result c.if-not-is_hex.false-raw in it) in it)); narrow = omega arith }
+pub number-requires : goal.number-requires
+number-requires c =
+    let s = spelling c.args.line.now c.is_hex.result c.is_hex.ensures c.if-not-is_hex.false-raw in
+    record { digits = s.digits; within = omega (arith, s.whole); narrow = omega arith }
+
+pub returns-in_err-kind : goal.returns-in_err-kind
+returns-in_err-kind c =
+    let l = c.args.line.now in
+    let s = spelling l c.is_hex.result c.is_hex.ensures c.if-not-is_hex.false-raw in
+    let head = c.in_err-kind.ensures in
+    let p = err_from_is_err_and c.from_residual.result c.from_residual.ensures.1 in
+    let same : c.from_residual.result ≡ Err Why.UnknownHeader = p.1 ∙ ap Err (p.2 ∙ head.0) in
+    subst (λ (r : Result Contents Refusal). Reads (read_line l) r) (sym same)
+    (read_refused Why.UnknownHeader (line_unknown l s.digits (omega (arith, s.whole)) (λ k e. head.1 k (c.number.ensures.0 ∙ e))))
 
 pub read_entries-requires : goal.read_entries-requires
-read_entries-requires c = record { digits = (let it : is_hex c.args.line.now ≡ true = sym c.is_hex.ensures ∙ not-false c.is_hex.result c.if-not-is_hex.false-raw in it); some = omega (arith, (let it : let l = c.args.line.now in 2 * (length l / 2) ≡ length l = hex_even c.args.line.now (let it : is_hex c.args.line.now ≡ true = sym c.is_hex.ensures ∙ not-false c.is_hex.result c.if-not-is_hex.false-raw in it) in it)) }
-
-pub returns-then-header-eq1 : goal.returns-then-header-eq1
-returns-then-header-eq1 c =
-    let l = c.args.line.now in
-    read_as c.read_entries.result
-    (line_leaf l (let it : is_hex c.args.line.now ≡ true = sym c.is_hex.ensures ∙ not-false c.is_hex.result c.if-not-is_hex.false-raw in it) (omega (arith, (let it : let l = c.args.line.now in 2 * (length l / 2) ≡ length l = hex_even c.args.line.now (let it : is_hex c.args.line.now ≡ true = sym c.is_hex.ensures ∙ not-false c.is_hex.result c.if-not-is_hex.false-raw in it) in it))) (sym c.number-header.ensures.0 ∙ c.if-header-eq1.true)) c.read_entries.ensures
-
-pub read_entries-requires-then-header-eq0 : goal.read_entries-requires-then-header-eq0
-read_entries-requires-then-header-eq0 c = record { digits = (let it : is_hex c.args.line.now ≡ true = sym c.is_hex.ensures ∙ not-false c.is_hex.result c.if-not-is_hex.false-raw in it); some = omega (arith, (let it : let l = c.args.line.now in 2 * (length l / 2) ≡ length l = hex_even c.args.line.now (let it : is_hex c.args.line.now ≡ true = sym c.is_hex.ensures ∙ not-false c.is_hex.result c.if-not-is_hex.false-raw in it) in it)) }
-
-pub returns-then-header-eq0 : goal.returns-then-header-eq0
-returns-then-header-eq0 c =
-    let l = c.args.line.now in
-    read_as c.read_entries-then-header-eq0.result
-    (line_interior l (let it : is_hex c.args.line.now ≡ true = sym c.is_hex.ensures ∙ not-false c.is_hex.result c.if-not-is_hex.false-raw in it) (omega (arith, (let it : let l = c.args.line.now in 2 * (length l / 2) ≡ length l = hex_even c.args.line.now (let it : is_hex c.args.line.now ≡ true = sym c.is_hex.ensures ∙ not-false c.is_hex.result c.if-not-is_hex.false-raw in it) in it))) (sym c.number-header.ensures.0 ∙ c.if-header-eq0.true)) c.read_entries-then-header-eq0.ensures
+read_entries-requires c =
+    let s = spelling c.args.line.now c.is_hex.result c.is_hex.ensures c.if-not-is_hex.false-raw in
+    record { digits = s.digits; some = omega (arith, s.whole) }
 
 pub returns : goal.returns
 returns c =
     let l = c.args.line.now in
-    let n = c.number-header.ensures.0 in
-    read_as c.refusal-2.result
-    (line_unknown l (let it : is_hex c.args.line.now ≡ true = sym c.is_hex.ensures ∙ not-false c.is_hex.result c.if-not-is_hex.false-raw in it) (omega (arith, (let it : let l = c.args.line.now in 2 * (length l / 2) ≡ length l = hex_even c.args.line.now (let it : is_hex c.args.line.now ≡ true = sym c.is_hex.ensures ∙ not-false c.is_hex.result c.if-not-is_hex.false-raw in it) in it))) (λ e. omega (arith, n, e)) (λ e. omega (arith, n, e)))
-    c.refusal-2.ensures
+    let s = spelling l c.is_hex.result c.is_hex.ensures c.if-not-is_hex.false-raw in
+    read_as c.read_entries.result (line_kind l s.digits (omega (arith, s.whole)) c.in_ok-kind.kind (sym c.number.ensures.0 ∙ c.in_ok-kind.ensures)) c.read_entries.ensures

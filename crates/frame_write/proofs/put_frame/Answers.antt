@@ -1,6 +1,6 @@
 -- `put_frame` meets its contract. The loop's invariant: behind the header stand the first i entries. Assumes nothing.
 use mathlib.Core.Path.{◌≡◌, refl, ap, ◌∙◌}
-use Prim.Native.Nat.{ℕ, ◌+◌, ◌-◌, ◌*◌}
+use Prim.Native.Nat.{ℕ, ◌+◌, ◌*◌}
 use native.Mathlib.Omega.{arith}
 use Rattle.model.specs.Frame.{bytes}
 use Rattle.frame_text.specs.Entries.{width_of, header_of}
@@ -72,7 +72,7 @@ returns c =
     let e : h.i ≡ a.contents.count = omega arith in
     let long = line_long a.contents in
     let first_byte : c.put_number.new.line ≡ spelled l 0 1 (bytes 1 (header_of k)) =
-    c.put_number.ensures ∙ ap (λ (x : ℕ). spelled l 0 1 (bytes 1 x)) c.header.ensures in
+    c.put_number.ensures ∙ ap (λ (x : ℕ). spelled l 0 1 (bytes 1 x)) c.into.ensures in
     let all : h.line ≡ spelled c.put_number.new.line 1 (a.contents.count * width_of k) (codes k (first a.contents.count a.contents.entries)) =
     h.invariant.1.1 ∙ ap (λ (i : ℕ). spelled c.put_number.new.line 1 (i * width_of k) (codes k (first i a.contents.entries))) e in
     write_done l h.line (frame_of a.contents) (2 * c.start_of-end.result)

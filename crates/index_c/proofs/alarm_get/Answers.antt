@@ -3,4 +3,4 @@ use Rattle.index_c.proofs.alarm_get.Goals as goal
 
 pub returns : goal.returns
 returns c =
-    (c.get-answer.result, (c.get-answer.ensures, c.tell_get.ensures))
+    (c.get-answer.result, (c.get-answer.ensures, c.tell.ensures))

@@ -3,4 +3,4 @@ use Rattle.index_c.proofs.alarm_open.Goals as goal
 
 pub returns : goal.returns
 returns c =
-    (c.open-answer.result, (rw c.settings-given.ensures at c.open-answer.ensures, c.tell_open.ensures))
+    (c.open-answer.result, (rw c.settings-given.ensures at c.open-answer.ensures, c.code.ensures))

@@ -3,4 +3,4 @@ use Rattle.index_c.proofs.alarm_pack.Goals as goal
 
 pub returns : goal.returns
 returns c =
-    (c.pack-answer.result, (c.pack-answer.ensures, c.tell_pack.ensures))
+    (c.pack-answer.result, (c.pack-answer.ensures, c.code.ensures))

@@ -5,4 +5,4 @@ use Rattle.index_c.proofs.alarm_scan.Goals as goal
 pub returns : goal.returns
 returns c =
     let told = rw (c.bound-low.ensures, c.bound-high.ensures, c.direction-way.ensures) at c.scan-answer.ensures in
-    (c.scan-answer.result, (told, c.tell_scan.ensures))
+    (c.scan-answer.result, (told, c.tell.ensures))

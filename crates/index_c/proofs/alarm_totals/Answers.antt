@@ -2,4 +2,4 @@
 use Rattle.index_c.proofs.alarm_totals.Goals as goal
 
 pub returns : goal.returns
-returns c = (c.totals-answer.result, (c.totals-answer.ensures, c.tell_totals.ensures))
+returns c = (c.totals-answer.result, (c.totals-answer.ensures, c.tell.ensures))

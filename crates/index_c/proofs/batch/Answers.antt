@@ -3,4 +3,4 @@ use Rattle.index_c.proofs.batch.Goals as goal
 
 pub returns : goal.returns
 returns c =
-    (c.batch-answer.result, (c.batch-answer.ensures, c.tell_counts.ensures))
+    (c.batch-answer.result, (c.batch-answer.ensures, c.tell.ensures))

@@ -1,8 +1,7 @@
 -- `put_contents` meets its contract. The loop's invariant: what is left to put makes each array its field of the 32 places. Assumes nothing.
 use mathlib.Core.Path.{◌≡◌, refl}
 use mathlib.Core.List.{List, [], ◌∷◌}
-use Prim.Native.Nat.{ℕ, ◌-◌}
-use native.Mathlib.Omega.{arith}
+use Prim.Native.Nat.{ℕ}
 use lib.ListN.{length, replicate, length-replicate}
 use Rattle.frame_text.specs.declared.FrameEntry.{FrameEntry}
 use Rattle.index_c_fields.specs.Fields.{wide_of, narrow_of}
@@ -16,7 +15,6 @@ loop-i-init c =
     let none : List ℕ = replicate 32 0 in
     let n : length none ≡ 32 = length-replicate {A = ℕ} 32 0 in
     record {
-      within = omega arith;
       keys = fill_start (at (λ (e : FrameEntry). e.key) x.entries) 32 none n;
       wide = fill_start (at (wide_of x.kind) x.entries) 32 none n;
       narrow = fill_start (at (narrow_of x.kind) x.entries) 32 none n;
@@ -30,7 +28,6 @@ loop-i-preserved c =
     let h = c.loop-i in
     let n = c.loop-i-test.true in
     record {
-      within = omega arith;
       keys = fill_turn (at (λ (e : FrameEntry). e.key) x.entries) 32 h.key h.i _ n refl h.invariant.keys;
       wide = fill_turn (at (wide_of x.kind) x.entries) 32 h.high h.i _ n c.wide_of.ensures h.invariant.wide;
       narrow = fill_turn (at (narrow_of x.kind) x.entries) 32 h.low h.i _ n c.narrow_of.ensures h.invariant.narrow;
@@ -49,7 +46,7 @@ returns c =
     let alive = fill_end (at (λ (e : FrameEntry). e.totals.live) x.entries) 32 h.alive h.i n h.invariant.live in
     let gone = fill_end (at (λ (e : FrameEntry). e.totals.dead) x.entries) 32 h.gone h.i n h.invariant.dead in
     λ j. record {
-      head = c.header.ensures j ∷ x.count ∷ [];
+      head = c.into.ensures j ∷ x.count ∷ [];
       keys = key j;
       wide = high j;
       narrow = low j;

@@ -1,5 +1,4 @@
 -- `put_contents` meets its contract. The loop's invariant: what is left to put makes each array its field of the 32 places. Assumes nothing.
-use Prim.Native.Nat.{◌-◌}
 use Rattle.index_c_fields.proofs.Tellings.{Telling}
 use Rattle.index_c_fields.proofs.put_contents.Given as goal
 
@@ -7,6 +6,3 @@ use Rattle.index_c_fields.proofs.put_contents.Given as goal
 abbrev pub invariant-loop-i : goal.invariant-loop-i
 invariant-loop-i l =
     Telling l.kind l.entries l.key l.high l.low l.alive l.gone l.i
-
-abbrev pub decreases-loop-i : goal.decreases-loop-i
-decreases-loop-i l = 32 - l.i

@@ -1,7 +1,5 @@
 -- `interior` meets its contract. The loop's invariant: what is left to put makes the entries those of the 32 places. Assumes nothing.
 use mathlib.Core.List.{List}
-use Prim.Native.Nat.{◌-◌}
-use native.Mathlib.Omega.{arith}
 use lib.ListN.{replicate, length-replicate}
 use Rattle.frame_text.specs.declared.Kind.TheVariants.{Interior}
 use Rattle.frame_text.specs.declared.FrameEntry.{FrameEntry}
@@ -12,15 +10,15 @@ use Rattle.index_c_given.proofs.interior.Goals as goal
 pub loop-i-init : goal.loop-i-init
 loop-i-init c =
     let none : List FrameEntry = replicate 32 c.branch-entries.result in
-    (omega arith, fill_start (branch_at c.args.keys.now c.args.children.now c.args.live.now c.args.dead.now c.args.sums.now) 32 none (length-replicate 32 c.branch-entries.result))
+    fill_start (branch_at c.args.keys.now c.args.children.now c.args.live.now c.args.dead.now c.args.sums.now) 32 none (length-replicate 32 c.branch-entries.result)
 
 pub loop-i-preserved : goal.loop-i-preserved
 loop-i-preserved c =
     let h = c.loop-i in
-    (omega arith, fill_turn (branch_at c.args.keys.now c.args.children.now c.args.live.now c.args.dead.now c.args.sums.now) 32 h.entries h.i _ c.loop-i-test.true c.branch-entries-in-loop-i.ensures h.invariant.1)
+    fill_turn (branch_at c.args.keys.now c.args.children.now c.args.live.now c.args.dead.now c.args.sums.now) 32 h.entries h.i _ c.loop-i-test.true c.branch-entries-in-loop-i.ensures h.invariant
 
 pub returns : goal.returns
 returns c =
     let h = c.loop-i in
-    let entries = fill_end (branch_at c.args.keys.now c.args.children.now c.args.live.now c.args.dead.now c.args.sums.now) 32 h.entries h.i c.loop-i-test.false h.invariant.1 in
+    let entries = fill_end (branch_at c.args.keys.now c.args.children.now c.args.live.now c.args.dead.now c.args.sums.now) 32 h.entries h.i c.loop-i-test.false h.invariant in
     λ j. record { kind = Interior; count = c.args.count; entries = entries j }

@@ -1,11 +1,7 @@
 -- `leaf` meets its contract. The loop's invariant: what is left to put makes the entries those of the 32 places. Assumes nothing.
-use Prim.Native.Nat.{◌-◌, ◌≤◌}
 use Rattle.index_c_given.specs.Given.{leaf_at}
 use Rattle.index_c_given.proofs.Fills.{Filling}
 use Rattle.index_c_given.proofs.leaf.Given as goal
 
 abbrev pub invariant-loop-i : goal.invariant-loop-i
-invariant-loop-i l = (l.i ≤ 32) × Filling (leaf_at l.keys l.places l.sizes) 32 l.entries l.i
-
-abbrev pub decreases-loop-i : goal.decreases-loop-i
-decreases-loop-i l = 32 - l.i
+invariant-loop-i l = Filling (leaf_at l.keys l.places l.sizes) 32 l.entries l.i

@@ -1,17 +1,17 @@
 -- `frame` meets its contract: where the tree was not found the call refuses (`frame_refused`), and where it was the line is what the model's node
 -- writes (`frame_told_lem`). Assumes nothing.
+use mathlib.Core.Path.{refl}
+use Rattle.std.proofs.lemmas.Result.{err_from_is_err_and}
 use Rattle.index_look.proofs.Keeps.{frame_refused, frame_told_lem}
 use Rattle.index_look.proofs.frame.Goals as goal
 
-pub returns-then-at-ne0 : goal.returns-then-at-ne0
-returns-then-at-ne0 c =
-    let a = c.args in
-    frame_refused a.tree c.find-at.ensures.refusal c.if-at-ne0.true a.i _
+pub returns-in_err-at : goal.returns-in_err-at
+returns-in_err-at c =
+    let p = err_from_is_err_and c.from_residual.result c.from_residual.ensures.1 in
+    rw (p.1, p.2) (frame_refused c.args.tree _ c.in_err-at.ensures.refusal c.args.i _)
 
 pub write_node-requires : goal.write_node-requires
-write_node-requires c =
-    (c.find-at.ensures.tree c.if-at-ne0.false).pool
+write_node-requires c = (c.in_ok-at.ensures.tree _ refl).pool
 
 pub returns : goal.returns
-returns c =
-    frame_told_lem (c.find-at.ensures.tree c.if-at-ne0.false) c.args.i _ _ _ c.write_node.ensures
+returns c = frame_told_lem (c.in_ok-at.ensures.tree _ refl) c.args.i _ _ _ c.write_node.ensures

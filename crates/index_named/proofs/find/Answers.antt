@@ -1,18 +1,21 @@
 -- `find` meets its contract: the survey tells whether the pool is sound; where it is not the answer is 2 (`no_pool`), and where it is but has no such
--- tree 19 (`no_tree`); else what was found is the tree's own (`found`). Assumes nothing.
+-- tree 19; else what was found is the tree's own (`known`). Assumes nothing.
+use Rattle.std.proofs.lemmas.Result.{err_from_is_err_and}
 use native.Mathlib.Omega.{arith}
-use Rattle.index_named.proofs.Trees.{no_pool, in_limits, found}
+use Rattle.survey.proofs.Founds.{unsound, limits}
+use Rattle.index_named.proofs.Trees.{no_pool, known}
 use Rattle.index_named.proofs.find.Goals as goal
 
-pub returns-then-not-found : goal.returns-then-not-found
-returns-then-not-found c =
-    no_pool c.survey-found.ensures c.args.tree c.if-not-found.true _ c.not_found.ensures
+pub returns-in_err-found : goal.returns-in_err-found
+returns-in_err-found c =
+    let p = err_from_is_err_and c.from_residual.result c.from_residual.ensures.1 in
+    let none = unsound c.survey.result _ c.survey.ensures c.in_err-found.ensures.value in
+    rw (p.1, p.2, none.0) (no_pool c.args.tree none.1)
 
 pub handed-settings-requires : goal.handed-settings-requires
-handed-settings-requires c =
-    in_limits c.survey-found.ensures c.args.tree c.if-not-found.false
+handed-settings-requires c = limits (rw c.in_ok-found.ensures.ok_part at c.survey.ensures)
 
 pub returns : goal.returns
 returns c =
-    found c.survey-found.ensures c.args.tree c.if-not-found.false (omega arith) _ _
-    c.handed-settings.ensures c.height_for-height.ensures
+    let s = rw c.in_ok-found.ensures.ok_part at c.survey.ensures in
+    known s c.args.tree (omega arith) _ _ c.handed-settings.ensures c.height_for-height.ensures

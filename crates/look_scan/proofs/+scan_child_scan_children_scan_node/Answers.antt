@@ -70,12 +70,8 @@ scan_children-scan_child-at-requires t c =
       omega (arith, c.decreases),
       walk_enters a.st (words a.pool.now) a.below a.s a.q c.requires.tree a.room _ at.out at.at at.j at.invariant.1.1
           place.result (omega (arith, n, test)) (place.ensures.is ∙ ap (λ (m : ℕ). place_in a.q.direction m at.j) n) (omega (arith, n, place.ensures.inside)) row.result row.ensures
-          (omega (arith, c.requires.ready.fits, at.invariant.1.0)) (not-true _ c.if-not-at.true) c.requires.held,
+          (omega (arith, c.requires.ready.fits, at.invariant.1.0)) c.if-at.false c.requires.held,
     )
-
-pub scan_children-shape_of-out-then-not-goes_on : goal.scan_children-shape_of-out-then-not-goes_on
-scan_children-shape_of-out-then-not-goes_on t c =
-    c.scan_child-at.auto.out ∙ c.loop-j.invariant.1.0
 
 pub scan_children-returns-then-not-goes_on : goal.scan_children-returns-then-not-goes_on
 scan_children-returns-then-not-goes_on t c =
@@ -90,12 +86,6 @@ scan_children-returns-then-not-goes_on t c =
     (walk_leaves a.st (words a.pool.now) a.below a.s a.q c.requires.tree a.room _ at.out at.at at.j at.invariant.1.1
     place.result (omega (arith, n, test)) (place.ensures.is ∙ ap (λ (m : ℕ). place_in a.q.direction m at.j) n) (omega (arith, n, place.ensures.inside)) row.result row.ensures
     child.new.out child.result child.ensures (sym c.goes_on.ensures ∙ not-true _ c.if-not-goes_on.true-raw))
-
-pub scan_children-overflow_add-j : goal.scan_children-overflow_add-j
-scan_children-overflow_add-j t c = omega (arith, c.loop-j-test.true)
-
-pub scan_children-loop-j-smaller : goal.scan_children-loop-j-smaller
-scan_children-loop-j-smaller t c = omega (arith, c.loop-j-test.true)
 
 pub scan_children-loop-j-preserved : goal.scan_children-loop-j-preserved
 scan_children-loop-j-preserved t c =
@@ -115,18 +105,12 @@ scan_children-loop-j-preserved t c =
       ),
     )
 
-pub scan_children-shape_of-out-else-not-at : goal.scan_children-shape_of-out-else-not-at
-scan_children-shape_of-out-else-not-at t c = c.loop-j.invariant.1.0
-
-pub scan_children-returns-else-not-at : goal.scan_children-returns-else-not-at
-scan_children-returns-else-not-at t c =
+pub scan_children-returns-then-at : goal.scan_children-returns-then-at
+scan_children-returns-then-at t c =
     let a = c.args in
     let at = c.loop-j in
     walk_is a.st (words a.pool.now) a.below a.s a.q a.room a.out.now a.w c.requires (walk_at at.out at.at)
-    (walk_stops a.st (words a.pool.now) a.below a.s a.q c.requires.tree a.room _ at.out at.at at.j at.invariant.1.1 (not-false _ c.if-not-at.false))
-
-pub scan_children-shape_of-out-after-loop-j : goal.scan_children-shape_of-out-after-loop-j
-scan_children-shape_of-out-after-loop-j t c = c.loop-j.invariant.1.0
+    (walk_stops a.st (words a.pool.now) a.below a.s a.q c.requires.tree a.room _ at.out at.at at.j at.invariant.1.1 c.if-at.true)
 
 pub scan_children-returns-after-loop-j : goal.scan_children-returns-after-loop-j
 scan_children-returns-after-loop-j t c =

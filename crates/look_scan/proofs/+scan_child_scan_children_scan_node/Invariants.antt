@@ -1,7 +1,7 @@
 -- The cycle of a scan's walk meets its contracts: a node is a leaf or has children, the loop over children steps into each, and a child is a node one
 -- level lower. The height falls round the cycle. The laws are in `Rounds`. Assumes nothing.
 use mathlib.Core.Path.{◌≡◌}
-use Prim.Native.Nat.{◌+◌, ◌-◌, ◌*◌, ◌≤◌}
+use Prim.Native.Nat.{◌+◌, ◌*◌, ◌≤◌}
 use lib.ListN.{length}
 use Rattle.words.specs.Words.{words}
 use Rattle.slots.specs.Nodes.{nodes, rows_at}
@@ -23,6 +23,3 @@ decreases-scan_node l = 3 * l.height
 abbrev pub invariant-scan_children-loop-j : goal.invariant-scan_children-loop-j
 invariant-scan_children-loop-j l =
     (l.j ≤ l.n) × ((length l.out ≡ length l.initial.out) × Walking l.q (nodes l.st (words l.pool)) l.below (rows_at l.st (words l.pool) l.s) l.room (walk_at l.initial.out l.initial.at) l.out l.at l.j)
-
-abbrev pub decreases-scan_children-loop-j : goal.decreases-scan_children-loop-j
-decreases-scan_children-loop-j l = l.n - l.j

@@ -4,7 +4,6 @@ use mathlib.Core.Path.{refl, sym, ap, ◌∙◌}
 use mathlib.Core.List.{[], ◌∷◌}
 use Prim.Native.Nat.{ℕ, ◌+◌, ◌-◌}
 use native.Mathlib.Omega.{arith}
-use borrow.Author.Tests.{not-true, not-false}
 use Rattle.words.specs.Words.{words}
 use Rattle.slots_raw.specs.declared.Row.{Row}
 use Rattle.slots.specs.Nodes.{rows_at}
@@ -37,13 +36,7 @@ row_at-row-requires c =
     record { held = at.held; slot = at.slot; within = omega (arith, c.place_in-i.ensures.inside, n) }
 
 pub list_due-l-requires : goal.list_due-l-requires
-list_due-l-requires c = record { space = omega (arith, c.requires.ready.fits, c.loop-j.invariant.1.0); unfilled = not-true _ c.if-not-l.true }
-
-pub overflow_add-j : goal.overflow_add-j
-overflow_add-j c = omega (arith, c.loop-j-test.true)
-
-pub loop-j-smaller : goal.loop-j-smaller
-loop-j-smaller c = omega (arith, c.loop-j-test.true)
+list_due-l-requires c = record { space = omega (arith, c.requires.ready.fits, c.loop-j.invariant.1.0); unfilled = c.if-l.false }
 
 pub loop-j-preserved : goal.loop-j-preserved
 loop-j-preserved c =
@@ -65,20 +58,14 @@ loop-j-preserved c =
       ),
     )
 
-pub shape_of-out-else-not-l : goal.shape_of-out-else-not-l
-shape_of-out-else-not-l c = c.loop-j.invariant.1.0
-
-pub returns-else-not-l : goal.returns-else-not-l
-returns-else-not-l c =
+pub returns-then-l : goal.returns-then-l
+returns-then-l c =
     let a = c.args in
     let rs = rows_at a.st (words a.pool.now) a.s in
     let q = a.q in
     let at = c.loop-j in
-    let full = ended a.room (leaf_rest q rs at.j) (page at.out at.l) (not-false _ c.if-not-l.false) in
+    let full = ended a.room (leaf_rest q rs at.j) (page at.out at.l) c.if-l.true in
     leaf_visited q a.room a.s rs a.out.now a.w at.out at.l c.requires.ready.fresh (sym full ∙ at.invariant.1.1)
-
-pub shape_of-out-after-loop-j : goal.shape_of-out-after-loop-j
-shape_of-out-after-loop-j c = c.loop-j.invariant.1.0
 
 pub returns-after-loop-j : goal.returns-after-loop-j
 returns-after-loop-j c =

@@ -1,7 +1,7 @@
 -- `scan_leaf` meets its contract. The loop's invariant: the entries that are left, listed on this page, give what all of them give on the first.
 -- Assumes nothing.
 use mathlib.Core.Path.{◌≡◌}
-use Prim.Native.Nat.{◌-◌, ◌≤◌}
+use Prim.Native.Nat.{◌≤◌}
 use lib.ListN.{length}
 use Rattle.words.specs.Words.{words}
 use Rattle.slots.specs.Nodes.{rows_at}
@@ -13,6 +13,3 @@ abbrev pub invariant-loop-j : goal.invariant-loop-j
 invariant-loop-j l =
     let rs = rows_at l.st (words l.pool) l.s in
     (l.j ≤ l.n) × ((length l.out ≡ length l.initial.out) × (enlist_all l.room (leaf_rest l.q rs l.j) (page l.out l.l) ≡ enlist_all l.room (leaf_rest l.q rs 0) (page l.initial.out l.initial.l)))
-
-abbrev pub decreases-loop-j : goal.decreases-loop-j
-decreases-loop-j l = l.n - l.j

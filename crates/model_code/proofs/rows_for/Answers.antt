@@ -6,4 +6,4 @@ use Rattle.model_code.proofs.rows_for.Goals as goal
 
 pub returns : goal.returns
 unfolding rows_for
-returns c = ap (λ (n : ℕ). 2 * n) c.greater.ensures
+returns c = ap (λ (n : ℕ). 2 * n) c.max.ensures

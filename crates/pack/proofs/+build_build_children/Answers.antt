@@ -64,20 +64,20 @@ build_children-overflow_add-child-in-loop-taken t c =
 
 pub build_children-build-next-requires : goal.build_children-build-next-requires
 build_children-build-next-requires t c =
-    let is = c.lesser.ensures ∙ ap (λ (k : ℕ). min k (c.args.piece.count - c.loop-taken.taken)) c.capacity-most.ensures in (
+    let is = c.min.ensures ∙ ap (λ (k : ℕ). min k (c.args.piece.count - c.loop-taken.taken)) c.capacity-most.ensures in (
       omega (arith, c.decreases, c.requires.interior),
       child_asks _ _ _ _ _ _ c.requires.asked _ _ _ _ c.loop-taken.invariant.0 c.loop-taken-test.true _ is,
     )
 
 pub build_children-hang-requires : goal.build_children-hang-requires
 build_children-hang-requires t c =
-    let is = c.lesser.ensures ∙ ap (λ (k : ℕ). min k (c.args.piece.count - c.loop-taken.taken)) c.capacity-most.ensures in
+    let is = c.min.ensures ∙ ap (λ (k : ℕ). min k (c.args.piece.count - c.loop-taken.taken)) c.capacity-most.ensures in
     child_hangs _ _ _ _ _ _ c.requires.asked _ _ _ _ c.loop-taken.invariant.0 c.loop-taken-test.true _ is _ _ c.build-next.ensures
 
 pub build_children-overflow_add-taken : goal.build_children-overflow_add-taken
 build_children-overflow_add-taken t c =
     let asked = c.requires.asked in
-    omega (arith, c.lesser.ensures, asked.within, asked.source.light)
+    omega (arith, c.min.ensures, asked.within, asked.source.light)
 
 pub build_children-overflow_add-i : goal.build_children-overflow_add-i
 build_children-overflow_add-i t c =
@@ -86,13 +86,13 @@ build_children-overflow_add-i t c =
 
 pub build_children-loop-taken-smaller : goal.build_children-loop-taken-smaller
 build_children-loop-taken-smaller t c =
-    let is = c.lesser.ensures ∙ ap (λ (k : ℕ). min k (c.args.piece.count - c.loop-taken.taken)) c.capacity-most.ensures in
+    let is = c.min.ensures ∙ ap (λ (k : ℕ). min k (c.args.piece.count - c.loop-taken.taken)) c.capacity-most.ensures in
     let some = capacity_some c.args.st.order (omega (arith, c.requires.asked.root.held.shape.limits.wide)) (c.args.piece.height - 1) in
     omega (arith, is, some, c.loop-taken-test.true)
 
 pub build_children-loop-taken-preserved : goal.build_children-loop-taken-preserved
 build_children-loop-taken-preserved t c =
-    let is = c.lesser.ensures ∙ ap (λ (k : ℕ). min k (c.args.piece.count - c.loop-taken.taken)) c.capacity-most.ensures in (
+    let is = c.min.ensures ∙ ap (λ (k : ℕ). min k (c.args.piece.count - c.loop-taken.taken)) c.capacity-most.ensures in (
       growing_on _ _ _ _ _ _ c.requires.asked _ _ _ _ c.loop-taken.invariant.0 c.loop-taken-test.true _ is _ _ c.build-next.ensures _ c.hang.ensures,
       c.hang.auto.pool ∙ c.build-next.auto.pool ∙ c.loop-taken.invariant.1,
     )

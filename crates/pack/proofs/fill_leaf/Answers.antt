@@ -28,23 +28,23 @@ overflow_sub-side_by_side c = omega (arith, c.spot_of-spot.ensures.row, c.count.
 pub append_rows-requires : goal.append_rows-requires
 append_rows-requires c =
     let is =
-    c.lesser-n.ensures ∙ ap (λ (k : ℕ). min (k - c.spot_of-spot.result.row) (c.args.piece.count - c.loop-taken.taken)) c.count.ensures.is in
+    c.min-n.ensures ∙ ap (λ (k : ℕ). min (k - c.spot_of-spot.result.row) (c.args.piece.count - c.loop-taken.taken)) c.count.ensures.is in
     filling_asks _ _ _ _ _ c.requires _ _ c.loop-taken.invariant.0 c.loop-taken-test.true _ c.spot_of-spot.ensures _ is
 
 pub overflow_add-taken : goal.overflow_add-taken
 overflow_add-taken c =
-    omega (arith, c.lesser-n.ensures, c.requires.within, c.requires.source.light)
+    omega (arith, c.min-n.ensures, c.requires.within, c.requires.source.light)
 
 pub loop-taken-smaller : goal.loop-taken-smaller
 loop-taken-smaller c =
     let is =
-    c.lesser-n.ensures ∙ ap (λ (k : ℕ). min (k - c.spot_of-spot.result.row) (c.args.piece.count - c.loop-taken.taken)) c.count.ensures.is in
+    c.min-n.ensures ∙ ap (λ (k : ℕ). min (k - c.spot_of-spot.result.row) (c.args.piece.count - c.loop-taken.taken)) c.count.ensures.is in
     omega (arith, run_some _ _ _ _ _ c.requires _ _ c.loop-taken.invariant.0 c.loop-taken-test.true _ c.spot_of-spot.ensures _ is, c.loop-taken-test.true)
 
 pub loop-taken-preserved : goal.loop-taken-preserved
 loop-taken-preserved c =
     let is =
-    c.lesser-n.ensures ∙ ap (λ (k : ℕ). min (k - c.spot_of-spot.result.row) (c.args.piece.count - c.loop-taken.taken)) c.count.ensures.is in (
+    c.min-n.ensures ∙ ap (λ (k : ℕ). min (k - c.spot_of-spot.result.row) (c.args.piece.count - c.loop-taken.taken)) c.count.ensures.is in (
       filling_on _ _ _ _ _ c.requires _ _ c.loop-taken.invariant.0 c.loop-taken-test.true _ c.spot_of-spot.ensures _ is _ c.append_rows.ensures,
       c.append_rows.auto.pool ∙ c.loop-taken.invariant.1,
     )

@@ -36,7 +36,7 @@ nodes_for-nodes-requires t c =
       record {
         some = asked.some;
         measured = record { narrow = asked.measured.narrow; low = omega (arith, asked.measured.low) };
-        fit = omega (arith, c.lesser-piece.ensures, c.capacity-most.ensures);
+        fit = omega (arith, c.min-piece.ensures, c.capacity-most.ensures);
       },
     )
 
@@ -48,11 +48,11 @@ overflow_add-nodes t c =
     omega (
       arith,
       (let it : let a = c.args in
-          Counting a.order (a.height - 1) a.n (c.loop-left.nodes + c.nodes_for-nodes.result) (c.loop-left.left - c.lesser-piece.result) = let a = c.args in
+          Counting a.order (a.height - 1) a.n (c.loop-left.nodes + c.nodes_for-nodes.result) (c.loop-left.left - c.min-piece.result) = let a = c.args in
           let up : a.height ≡ suc (a.height - 1) = omega (arith, c.if-height-eq0.false) in
           let fit : a.n ≤ pack.capacity a.order (suc (a.height - 1)) = omega (arith, c.requires.fit, ap (pack.capacity a.order) up) in
-          counting_more c.loop-left.invariant fit (omega arith) c.lesser-piece.result c.nodes_for-nodes.result
-          (c.lesser-piece.ensures ∙ ap (λ (k : ℕ). min k c.loop-left.left) c.capacity-most.ensures) c.nodes_for-nodes.ensures.nodes in it).sum,
+          counting_more c.loop-left.invariant fit (omega arith) c.min-piece.result c.nodes_for-nodes.result
+          (c.min-piece.ensures ∙ ap (λ (k : ℕ). min k c.loop-left.left) c.capacity-most.ensures) c.nodes_for-nodes.ensures.nodes in it).sum,
       ap (λ (h : ℕ). packed_nodes a.order h a.n) up,
       nodes_bound a.order a.height a.n asked,
       asked.fit,
@@ -60,11 +60,11 @@ overflow_add-nodes t c =
     )
 
 pub overflow_sub-left : goal.overflow_sub-left
-overflow_sub-left t c = omega (arith, c.lesser-piece.ensures)
+overflow_sub-left t c = omega (arith, c.min-piece.ensures)
 
 pub loop-left-smaller : goal.loop-left-smaller
 loop-left-smaller t c =
-    omega (arith, c.lesser-piece.ensures, c.capacity-most.ensures, capacity_some c.args.order c.requires.some (c.args.height - 1))
+    omega (arith, c.min-piece.ensures, c.capacity-most.ensures, capacity_some c.args.order c.requires.some (c.args.height - 1))
 
 -- with this piece's nodes
 pub loop-left-preserved : goal.loop-left-preserved
@@ -72,8 +72,8 @@ loop-left-preserved t c =
     let a = c.args in
     let up : a.height ≡ suc (a.height - 1) = omega (arith, c.if-height-eq0.false) in
     let fit : a.n ≤ pack.capacity a.order (suc (a.height - 1)) = omega (arith, c.requires.fit, ap (pack.capacity a.order) up) in
-    counting_more c.loop-left.invariant fit (omega arith) c.lesser-piece.result c.nodes_for-nodes.result
-    (c.lesser-piece.ensures ∙ ap (λ (k : ℕ). min k c.loop-left.left) c.capacity-most.ensures) c.nodes_for-nodes.ensures.nodes
+    counting_more c.loop-left.invariant fit (omega arith) c.min-piece.result c.nodes_for-nodes.result
+    (c.min-piece.ensures ∙ ap (λ (k : ℕ). min k c.loop-left.left) c.capacity-most.ensures) c.nodes_for-nodes.ensures.nodes
 
 pub returns : goal.returns
 returns t c =

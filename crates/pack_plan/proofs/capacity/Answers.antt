@@ -12,15 +12,15 @@ loop-h-init c = (omega arith, refl)
 pub overflow_mul-most : goal.overflow_mul-most
 overflow_mul-most c =
     let at = c.loop-h in
-    omega (arith, capacity_fits c.args.order at.h at.most c.requires.narrow (omega (arith, c.requires.low)) at.invariant.1)
+    omega (arith, capacity_fits c.args.order at._h at.most c.requires.narrow (omega (arith, c.requires.low)) at.invariant.1)
 
 pub loop-h-preserved : goal.loop-h-preserved
 loop-h-preserved c =
     let at = c.loop-h in
-    (omega arith, capacity_next c.args.order at.h at.most at.invariant.1)
+    (omega arith, capacity_next c.args.order at._h at.most at.invariant.1)
 
 pub returns : goal.returns
 returns c =
     let at = c.loop-h in
-    let end : at.h ≡ c.args.height = omega arith in
+    let end : at._h ≡ c.args.height = omega arith in
     at.invariant.1 ∙ ap (pack.capacity c.args.order) end

@@ -1,7 +1,6 @@
 -- `height_for` meets its contract. The loop's invariant: the search from here is the search from the start (`Seeking`). Assumes nothing.
-use Prim.Native.Nat.{◌-◌}
+use mathlib.Core.Path.{◌≡◌, ◌∙◌}
 use native.Mathlib.Omega.{arith}
-use borrow.Author.Tests.{ltb-true, ltb-false}
 use Rattle.pack_plan.proofs.Heights.{capacity_fits, seeking_start, seeking_on, seeking_found, seeking_past}
 use Rattle.pack_plan.proofs.height_for.Goals as goal
 
@@ -16,12 +15,14 @@ overflow_mul-most c =
 pub loop-height-preserved : goal.loop-height-preserved
 loop-height-preserved c =
     let at = c.loop-height in
-    seeking_on at.invariant (omega arith) (ltb-true at.most c.args.n c.if-most-n.true-raw)
+    seeking_on at.invariant (omega arith) c.if-n-most.false
 
-pub returns-else-most-n : goal.returns-else-most-n
-returns-else-most-n c =
+pub returns-then-n-most : goal.returns-then-n-most
+returns-then-n-most c =
     let at = c.loop-height in
-    seeking_found at.invariant (ltb-false at.most c.args.n c.if-most-n.false-raw)
+    seeking_found at.invariant c.if-n-most.true
 
-pub returns-after-loop-height : goal.returns-after-loop-height
-returns-after-loop-height c = seeking_past c.loop-height.invariant (omega arith)
+pub returns : goal.returns
+returns c =
+    let end : 7 ≡ c.loop-height.height = omega arith in
+    end ∙ seeking_past c.loop-height.invariant (omega arith)

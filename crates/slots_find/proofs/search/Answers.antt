@@ -3,14 +3,10 @@
 use mathlib.Core.Path.{sym, ◌∙◌}
 use Prim.Native.Nat.{◌-◌}
 use native.Mathlib.Omega.{arith}
-use borrow.Author.Count.{below_none, below_more}
 use Rattle.words.specs.Words.{words}
 use Rattle.slots.specs.Nodes.{rows_at}
 use Rattle.slots_find.proofs.Finds.{found_at, found_not, found_end}
 use Rattle.slots_find.proofs.search.Goals as goal
-
-pub loop-i-init : goal.loop-i-init
-loop-i-init c = (omega arith, below_none _)
 
 pub returns-then-key-here-2 : goal.returns-then-key-here-2
 returns-then-key-here-2 c =
@@ -29,9 +25,6 @@ returns-then-key-here c =
       is = found_not a.key l c.loop-i.i c.loop-i.invariant.1 (omega arith) (omega (arith, c.key_at-here.ensures));
       within = omega arith;
     }
-
-pub loop-i-preserved : goal.loop-i-preserved
-loop-i-preserved c = (omega arith, below_more _ _ c.loop-i.invariant.1 (omega (arith, c.key_at-here.ensures)))
 
 pub returns : goal.returns
 returns c =

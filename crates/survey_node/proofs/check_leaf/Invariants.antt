@@ -3,13 +3,9 @@
 use Prim.Native.Nat.{zero, ◌-◌}
 use Rattle.words.specs.Words.{words}
 use Rattle.slots.specs.Nodes.{rows_at}
-use Rattle.survey_node.specs.Parts.{last}
 use Rattle.survey_node.proofs.Walks.{Going}
 use Rattle.survey_node.proofs.check_leaf.Given as goal
 
 abbrev pub invariant-loop-i : goal.invariant-loop-i
 invariant-loop-i l =
-    Going l.st (words l.pool) zero (rows_at l.st (words l.pool) l.s) (last l.some l.key) (l.left - 1) l.i l.met l.part
-
-abbrev pub decreases-loop-i : goal.decreases-loop-i
-decreases-loop-i l = l.entries - l.i
+    Going l.st (words l.pool) zero (rows_at l.st (words l.pool) l.s) l.fn.last (l.left - 1) l.i l.part

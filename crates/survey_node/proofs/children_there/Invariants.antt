@@ -1,6 +1,6 @@
 -- `children_there` meets its contract. The loop's invariant: each of the first `i` rows names a node that is there. Assumes nothing.
 use mathlib.Core.List.{List}
-use Prim.Native.Nat.{ℕ, ◌-◌, ◌≤◌}
+use Prim.Native.Nat.{ℕ, ◌≤◌}
 use lib.ListN.{length, take}
 use Rattle.words.specs.Words.{words}
 use Rattle.slots_raw.specs.declared.Row.{Row}
@@ -18,6 +18,3 @@ Child st W h row = There st W h (child_of row)
 abbrev pub invariant-loop-i : goal.invariant-loop-i
 invariant-loop-i l =
     (l.i ≤ length (rows_at l.st (words l.pool) l.s)) × All (Child l.st (words l.pool) l.height) (take l.i (rows_at l.st (words l.pool) l.s))
-
-abbrev pub decreases-loop-i : goal.decreases-loop-i
-decreases-loop-i l = l.n - l.i

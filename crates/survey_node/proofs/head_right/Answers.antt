@@ -1,24 +1,13 @@
 -- `head_right` meets its contract: each test decides one part of the head. Assumes nothing.
 use native.Mathlib.Omega.{arith}
-use borrow.Author.Tests.{leb-true, le-leb}
+use borrow.Author.Tests.{leb-true, le-leb, lt-leb}
 use Rattle.words.specs.Words.{words}
 use Rattle.model.proofs.Answers.{tells_no}
 use Rattle.survey_node.proofs.Heads.{rows_count}
 use Rattle.survey_node.proofs.head_right.Goals as goal
 
-pub returns-then-left-eq0 : goal.returns-then-left-eq0
-returns-then-left-eq0 c = tells_no (λ g. omega (arith, g.opens))
-
-pub raw_count-n-requires : goal.raw_count-n-requires
-raw_count-n-requires c = (c.requires.shape, c.requires.there.slot)
-
-pub returns-then-n-least : goal.returns-then-n-least
-returns-then-n-least c =
-    let a = c.args in
-    tells_no (λ g. omega (arith, g.some, c.raw_count-n.ensures, rows_count a.st (words a.pool.now) a.s))
-
-pub returns : goal.returns
-returns c =
+pub returns-then-least-n : goal.returns-then-least-n
+returns-then-least-n c =
     let a = c.args in
     let W = words a.pool.now in
     let n = c.raw_count-n in
@@ -31,3 +20,9 @@ returns c =
       };
       told = λ g. le-leb n.result a.st.order (omega (arith, n.ensures, rows_count a.st W a.s, g.few));
     }
+
+pub returns-else-least-n : goal.returns-else-least-n
+returns-else-least-n c =
+    let a = c.args in
+    rw (lt-leb a.least c.raw_count-n.result (omega arith))
+    (tells_no (λ g. omega (arith, g.some, c.raw_count-n.ensures, rows_count a.st (words a.pool.now) a.s)))

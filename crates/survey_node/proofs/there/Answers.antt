@@ -1,17 +1,13 @@
--- `there` meets its contract: each test decides one part. Assumes nothing.
+-- `there` meets its contract: its second test decides the kind. Assumes nothing.
 use mathlib.Core.Path.{sym, ◌∙◌}
 use native.Mathlib.Omega.{arith}
 use borrow.Author.Tests.{eqb-true, eq-eqb}
 use Rattle.words.specs.Words.{words}
 use Rattle.slots.proofs.Nodes.{kind_node}
-use Rattle.model.proofs.Answers.{tells_no}
 use Rattle.survey_node.proofs.there.Goals as goal
 
-pub returns-then-st-s : goal.returns-then-st-s
-returns-then-st-s c = tells_no (λ g. omega (arith, g.slot))
-
-pub returns : goal.returns
-returns c =
+pub returns-then-s-st : goal.returns-then-s-st
+returns-then-s-st c =
     let a = c.args in
     let W = words a.pool.now in
     let kind = c.raw_kind in

@@ -1,14 +1,9 @@
 -- `last_key` meets its contract: a node without rows has no last key (`no_key`), and another's is that of its last row (`key_last`). Assumes nothing.
-use mathlib.Core.Path.{sym, ◌∙◌}
+use mathlib.Core.Path.{◌∙◌}
 use Rattle.words.specs.Words.{words}
 use Rattle.slots.specs.Nodes.{rows_at}
-use Rattle.tree_node.proofs.Weights.{no_key, key_last}
+use Rattle.tree_node.proofs.Weights.{key_last}
 use Rattle.tree_node.proofs.last_key.Goals as goal
-
-pub returns-then-n-eq0 : goal.returns-then-n-eq0
-returns-then-n-eq0 c =
-    let a = c.args in
-    no_key (rows_at a.st (words a.pool.now) a.s) (sym c.count-n.ensures.is ∙ c.if-n-eq0.true)
 
 pub returns : goal.returns
 returns c =

@@ -7,10 +7,10 @@ pub loop-h-init : goal.loop-h-init
 loop-h-init c = root_under c.requires
 
 pub step_to-step-requires : goal.step_to-step-requires
-step_to-step-requires c = let at = c.loop-h in step_ready at.h c.loop-h-test.true at.invariant
+step_to-step-requires c = let at = c.loop-h in step_ready at._h c.loop-h-test.true at.invariant
 
 pub loop-h-preserved : goal.loop-h-preserved
-loop-h-preserved c = let at = c.loop-h in step_down at.h c.loop-h-test.true at.invariant c.step_to-step.ensures
+loop-h-preserved c = let at = c.loop-h in step_down at._h c.loop-h-test.true at.invariant c.step_to-step.ensures
 
 pub returns : goal.returns
-returns c = let at = c.loop-h in arrive at.h c.loop-h-test.false at.invariant
+returns c = let at = c.loop-h in arrive at._h c.loop-h-test.false at.invariant

@@ -10,7 +10,4 @@ use Rattle.tree_rank.proofs.spot_of.Given as goal
 
 abbrev pub invariant-loop-h : goal.invariant-loop-h
 invariant-loop-h l =
-    let W = words l.pool in Under l.st W (entries (suc l.height) (tree_at (nodes l.st W) l.height l.s)) l.r l.h l.leaf l.row
-
-abbrev pub decreases-loop-h : goal.decreases-loop-h
-decreases-loop-h l = l.h
+    let W = words l.pool in Under l.st W (entries (suc l.height) (tree_at (nodes l.st W) l.height l.s)) l.r l._h l.leaf l.row

@@ -7,4 +7,4 @@ use Rattle.words.proofs.get.Goals as goal
 pub returns : goal.returns
 unfolding word
 returns c =
-    omega (arith, c.le8.ensures, words_read c.args.pool.now c.args.i c.place-p.result c.requires c.place-p.ensures.is)
+    omega (arith, c.from_le_bytes.ensures, words_read c.args.pool.now c.args.i c.place-p.result c.requires c.place-p.ensures.is)

@@ -1,8 +1,9 @@
 -- `put` meets its contract: the eight bytes that it stores spell `v`, and no other byte changes (`words_written`, `same_written`). Assumes nothing.
+use mathlib.Core.Path.{◌∙◌}
 use native.Mathlib.Omega.{arith}
 use lib.ListN.{length-set}
 use Rattle.words.specs.Words.{spell}
-use Rattle.words.proofs.Laws.{words_written, same_written}
+use Rattle.words.proofs.Laws.{spelled, words_written, same_written}
 use Rattle.words.proofs.put.Goals as goal
 
 pub bounds-pool-p-2 : goal.bounds-pool-p-2
@@ -31,4 +32,7 @@ shape_of-pool c = simp length-set
 
 pub returns : goal.returns
 unfolding spell
-returns c = record { words = words_written c.args.pool.now c.args.i c.place-p.result c.args.v c.requires c.place-p.ensures.is c.ranges.v.fits; same = same_written c.args.pool.now c.args.i c.place-p.result c.args.v c.requires c.place-p.ensures.is }
+returns c =
+    let a = c.args in
+    let e = c.to_le_bytes-bytes.ensures ∙ spelled a.v in
+    rw e (record { words = words_written a.pool.now a.i c.place-p.result a.v c.requires c.place-p.ensures.is c.ranges.v.fits; same = same_written a.pool.now a.i c.place-p.result a.v c.requires c.place-p.ensures.is })

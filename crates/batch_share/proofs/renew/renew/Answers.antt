@@ -13,4 +13,4 @@ returns c =
     let W = words a.pool.now in
     let ns = nodes a.st W in
     become a.st W (words c.set_row.new.pool) _ _ c.set_row.ensures
-    (ap (λ (r : Row). put_rows ns a.s (set (nth ns a.s).rows a.i r)) c.weigh-row.ensures)
+    (ap (λ (r : Row). put_rows ns a.at.parent (set (nth ns a.at.parent).rows a.at.row r)) c.weigh-row.ensures)

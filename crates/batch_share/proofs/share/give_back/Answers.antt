@@ -9,8 +9,8 @@ use Rattle.batch_share.proofs.share.give_back.Goals as goal
 pub child_at-p-requires : goal.child_at-p-requires
 child_at-p-requires c = sits_row (sits_lower c.requires.neighbours)
 
-pub overflow_add-i : goal.overflow_add-i
-overflow_add-i c = omega (arith, beside_few c.requires.neighbours)
+pub overflow_add-at : goal.overflow_add-at
+overflow_add-at c = omega (arith, beside_few c.requires.neighbours)
 
 pub child_at-c-requires : goal.child_at-c-requires
 child_at-c-requires c = sits_row (sits_upper c.requires.neighbours)

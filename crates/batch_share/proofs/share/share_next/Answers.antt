@@ -15,12 +15,12 @@ use Rattle.batch_share.proofs.share.share_next.Goals as goal
 pub count-n-requires : goal.count-n-requires
 count-n-requires c = record { held = c.requires.family.held; slot = parent_in c.requires.family }
 
-pub overflow_add-i : goal.overflow_add-i
-overflow_add-i c = omega (arith, focus_few (poise_focus c.requires))
+pub overflow_add-at : goal.overflow_add-at
+overflow_add-at c = omega (arith, focus_few (poise_focus c.requires))
 
-pub returns-then-i-n : goal.returns-then-i-n
-returns-then-i-n c =
-    next_none _ _ _ c.requires (c.if-i-n.true ∙ c.count-n.ensures.is) c.split_over.ensures
+pub returns-then-at-n : goal.returns-then-at-n
+returns-then-at-n c =
+    next_none _ _ _ c.requires (c.if-at-n.true ∙ c.count-n.ensures.is) c.split_over.ensures
 
 pub child_len-requires : goal.child_len-requires
 child_len-requires c = focus_sits (poise_focus c.requires)
@@ -33,20 +33,20 @@ pub give_on-requires : goal.give_on-requires
 give_on-requires c =
     let s : let a = c.args in
     let ns = nodes a.st (words a.pool.now) in
-    (a.st.order < len (child_at ns a.below a.s a.i)) × (a.i + 1 ≡ length (nth ns a.s).rows → ⊥) = (omega (arith, c.if-child_len-st.false, c.child_len.ensures), λ e. c.if-i-n.false (e ∙ sym c.count-n.ensures.is)) in let it = next_asks _ c.requires s.0 s.1 in
+    (a.st.order < len (child_at ns a.at.height a.at.parent a.at.row)) × (a.at.row + 1 ≡ length (nth ns a.at.parent).rows → ⊥) = (omega (arith, c.if-child_len-st.false, c.child_len.ensures), λ e. c.if-at-n.false (e ∙ sym c.count-n.ensures.is)) in let it = next_asks _ c.requires s.0 s.1 in
     record { neighbours = it.0; lower = it.1.0; upper = it.1.1 }
 
 pub split_over-requires-2 : goal.split_over-requires-2
 split_over-requires-2 c =
     let s : let a = c.args in
     let ns = nodes a.st (words a.pool.now) in
-    (a.st.order < len (child_at ns a.below a.s a.i)) × (a.i + 1 ≡ length (nth ns a.s).rows → ⊥) = (omega (arith, c.if-child_len-st.false, c.child_len.ensures), λ e. c.if-i-n.false (e ∙ sym c.count-n.ensures.is)) in
+    (a.st.order < len (child_at ns a.at.height a.at.parent a.at.row)) × (a.at.row + 1 ≡ length (nth ns a.at.parent).rows → ⊥) = (omega (arith, c.if-child_len-st.false, c.child_len.ensures), λ e. c.if-at-n.false (e ∙ sym c.count-n.ensures.is)) in
     next_poised _ _ c.requires s.0 s.1 c.give_on.ensures
 
 pub returns : goal.returns
 returns c =
     let s : let a = c.args in
     let ns = nodes a.st (words a.pool.now) in
-    (a.st.order < len (child_at ns a.below a.s a.i)) × (a.i + 1 ≡ length (nth ns a.s).rows → ⊥) = (omega (arith, c.if-child_len-st.false, c.child_len.ensures), λ e. c.if-i-n.false (e ∙ sym c.count-n.ensures.is)) in
+    (a.st.order < len (child_at ns a.at.height a.at.parent a.at.row)) × (a.at.row + 1 ≡ length (nth ns a.at.parent).rows → ⊥) = (omega (arith, c.if-child_len-st.false, c.child_len.ensures), λ e. c.if-at-n.false (e ∙ sym c.count-n.ensures.is)) in
     next_left _ _ _ _ c.requires s.0 s.1 c.give_on.ensures
     c.split_over-2.ensures

@@ -7,25 +7,25 @@ use Rattle.batch_share.specs.Children.{before_at, room_in}
 use Rattle.batch_share.proofs.Shares.{out_some, out_asks, out_poised, out_ended, out_stayed}
 use Rattle.batch_share.proofs.share.share_out.Goals as goal
 
-pub overflow_sub-i : goal.overflow_sub-i
-overflow_sub-i c = out_some _ c.requires.steps (let it : let a = c.args in room_in a.st (before_at (nodes a.st (words a.pool.now)) a.below a.s a.i) ≡ true = sym c.room_before.ensures ∙ c.if-room_before.true in it)
+pub overflow_sub-previous : goal.overflow_sub-previous
+overflow_sub-previous c = out_some _ c.requires.steps (let it : let a = c.args in room_in a.st (before_at (nodes a.st (words a.pool.now)) a.at.height a.at.parent a.at.row) ≡ true = sym c.room_before.ensures ∙ c.if-room_before.true in it)
 
 pub give_back-requires : goal.give_back-requires
 give_back-requires c =
-    let it = out_asks _ c.requires.steps (let it : let a = c.args in room_in a.st (before_at (nodes a.st (words a.pool.now)) a.below a.s a.i) ≡ true = sym c.room_before.ensures ∙ c.if-room_before.true in it) c.requires.says.over in
+    let it = out_asks _ c.requires.steps (let it : let a = c.args in room_in a.st (before_at (nodes a.st (words a.pool.now)) a.at.height a.at.parent a.at.row) ≡ true = sym c.room_before.ensures ∙ c.if-room_before.true in it) c.requires.says.over in
     record { neighbours = it.0; lower = it.1.0; upper = it.1.1 }
 
 pub share_next-spare-requires : goal.share_next-spare-requires
 share_next-spare-requires c =
-    out_poised _ _ c.requires.steps (let it : let a = c.args in room_in a.st (before_at (nodes a.st (words a.pool.now)) a.below a.s a.i) ≡ true = sym c.room_before.ensures ∙ c.if-room_before.true in it) c.give_back.ensures
+    out_poised _ _ c.requires.steps (let it : let a = c.args in room_in a.st (before_at (nodes a.st (words a.pool.now)) a.at.height a.at.parent a.at.row) ≡ true = sym c.room_before.ensures ∙ c.if-room_before.true in it) c.give_back.ensures
 
 pub overflow_sub-result : goal.overflow_sub-result
 overflow_sub-result c =
-    out_some _ c.requires.steps (let it : let a = c.args in room_in a.st (before_at (nodes a.st (words a.pool.now)) a.below a.s a.i) ≡ true = sym c.room_before.ensures ∙ c.if-room_before.true in it)
+    out_some _ c.requires.steps (let it : let a = c.args in room_in a.st (before_at (nodes a.st (words a.pool.now)) a.at.height a.at.parent a.at.row) ≡ true = sym c.room_before.ensures ∙ c.if-room_before.true in it)
 
 pub returns-then-room_before : goal.returns-then-room_before
 returns-then-room_before c =
-    out_ended _ _ _ _ c.requires.steps (let it : let a = c.args in room_in a.st (before_at (nodes a.st (words a.pool.now)) a.below a.s a.i) ≡ true = sym c.room_before.ensures ∙ c.if-room_before.true in it) refl c.give_back.ensures c.share_next-spare.ensures
+    out_ended _ _ _ _ c.requires.steps (let it : let a = c.args in room_in a.st (before_at (nodes a.st (words a.pool.now)) a.at.height a.at.parent a.at.row) ≡ true = sym c.room_before.ensures ∙ c.if-room_before.true in it) refl c.give_back.ensures c.share_next-spare.ensures
 
 pub returns : goal.returns
 returns c =

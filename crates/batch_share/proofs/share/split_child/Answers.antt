@@ -23,8 +23,8 @@ weigh-row-requires c =
     let t = c.requires in
     upper_weighs t (keeps_half t (child_named (poise_focus t) c.child_at-c.ensures).is c.count-n.ensures.is c.half-keep.ensures) _ c.split.ensures
 
-pub overflow_add-i : goal.overflow_add-i
-overflow_add-i c =
+pub overflow_add-at : goal.overflow_add-at
+overflow_add-at c =
     omega (arith, focus_few (poise_focus c.requires))
 
 pub insert_row-requires : goal.insert_row-requires

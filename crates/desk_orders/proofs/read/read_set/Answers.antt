@@ -1,12 +1,7 @@
 -- `read_set` meets its contract: what is read is the rows of a `set`, by value. Assumes nothing.
-use mathlib.Core.Path.{refl, ◌∙◌}
-use Rattle.desk_orders.proofs.Asks.{set_bad, set_good}
+use mathlib.Core.Path.{refl}
+use Rattle.desk_orders.proofs.Asks.{set_good}
 use Rattle.desk_orders.proofs.read.read_set.Goals as goal
 
-pub returns-then-n-eq0 : goal.returns-then-n-eq0
-returns-then-n-eq0 c = c.no_rows.ensures ∙ set_bad _ _ _ _ _ c.read_rows-n.ensures.read c.if-n-eq0.true
-
 pub returns : goal.returns
-returns c =
-    let e = c.read_rows-n.ensures in
-    set_good _ _ _ _ _ e.read c.if-n-eq0.false e.few e.lent (e.past c.if-n-eq0.false) _ refl
+returns c = let e = c.in-Some.ensures in set_good _ _ _ _ _ e.read e.few e.lent e.past _ refl

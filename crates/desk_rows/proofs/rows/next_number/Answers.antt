@@ -1,10 +1,7 @@
 -- `next_number` meets its contract: where the line goes on, a space ends the field, and the next one begins behind it. Assumes nothing.
 use native.Mathlib.Omega.{arith}
-use Rattle.desk_rows.proofs.Fields.{next_none, next_is}
+use Rattle.desk_rows.proofs.Fields.{next_is}
 use Rattle.desk_rows.proofs.rows.next_number.Goals as goal
-
-pub returns-then-end-line : goal.returns-then-end-line
-returns-then-end-line c = let a = c.args in next_none a.line.now a.end a.most c.if-end-line.true
 
 pub returns : goal.returns
 returns c =

@@ -1,7 +1,7 @@
 -- `contents_at` meets its contract. The loop's invariant: the first j rows are entered, and `child` counts the nodes before the next child. Assumes nothing.
 use mathlib.Core.List.{List, [], ◌∷◌, ◌++◌}
 use mathlib.Core.Path.{◌≡◌, sym, ap, subst, ◌∙◌}
-use Prim.Native.Nat.{◌+◌, ◌-◌, ◌<◌}
+use Prim.Native.Nat.{◌+◌, ◌<◌}
 use native.Mathlib.Omega.{arith}
 use lib.Seq.{take_all, length-take-le}
 use lib.ListN.{length, take, get_or, set, replicate}
@@ -10,7 +10,7 @@ use Rattle.slots.specs.Nodes.{nodes, nth}
 use Rattle.slots_raw.specs.Slots.{blank}
 use Rattle.slots_raw.specs.declared.Row.{Row}
 use Rattle.frame.specs.Frames.{entry_for}
-use Rattle.frame_text.specs.Contents.{padded, held}
+use Rattle.frame_text.specs.Contents.{padded}
 use Rattle.frame_text.specs.declared.FrameEntry.{FrameEntry}
 use Rattle.frame.proofs.Noded.{numbered, numbered_long, numbered_more, contents_numbered, size_fits}
 use Rattle.frame.proofs.Walks.{passed, passed_more, passed_few, nodes_tree, standing_at}

@@ -5,16 +5,15 @@ use native.Mathlib.Omega.{arith}
 use Rattle.words.specs.Words.{words}
 use Rattle.slots.specs.Nodes.{nodes, nth}
 use Rattle.frame.specs.Promises.{Located}
-use Rattle.frame.specs.declared.Found.TheVariants.{Node}
-use Rattle.frame.specs.declared.Found.{Found}
-use Rattle.frame.proofs.Walks.{passed_all, passed_leaf, standing_at, standing_row, standing_down, found_here, found_none, found_below, passed_below}
+use Rattle.std.specs.declared.ops.ControlFlow.TheVariants.{Break}
+use Rattle.frame.proofs.Walks.{passed_all, passed_leaf, standing_at, standing_row, standing_down, found_here, found_none, stops_below, goes_on_below}
 use Rattle.frame.proofs.preorder.+find.Goals as goal
 
 pub returns-then-i-eq0 : goal.returns-then-i-eq0
 returns-then-i-eq0 t c =
     let a = c.args in
     let W = words a.pool.now in
-    subst (λ (x : ℕ). Located a.st W a.height a.s x (Node a.s a.height)) (sym c.if-i-eq0.true)
+    subst (λ (x : ℕ). Located a.st W a.height a.s x (Break (record { slot = a.s; height = a.height }))) (sym c.if-i-eq0.true)
     (found_here a.st W a.height a.s c.requires)
 
 pub returns-then-height-eq0 : goal.returns-then-height-eq0
@@ -45,26 +44,22 @@ find-requires t c =
           (omega arith) c.child_at-child.ensures,
     )
 
-pub returns-in-Node : goal.returns-in-Node
-returns-in-Node t c =
+pub returns-in_err-left : goal.returns-in_err-left
+returns-in_err-left t c =
     let a = c.args in
-    let W = words a.pool.now in
     let h = c.loop-j in
     let kid = c.child_at-child in
-    found_below a.st W a.height a.s a.i h.j h.left kid.result c.in-Node.t c.in-Node.h (omega arith)
-    (omega arith) kid.ensures h.invariant.1
-    (subst (λ (x : Found). Located a.st W (a.height - 1) kid.result h.left x) c.in-Node.is c.find.ensures)
+    stops_below a.st (words a.pool.now) a.height a.s a.i h.j h.left kid.result c.find.result c.from_residual.result _ (omega arith) (omega arith)
+    kid.ensures h.invariant.1 c.find.ensures c.in_err-left.was c.from_residual.ensures
 
 pub loop-j-preserved : goal.loop-j-preserved
 loop-j-preserved t c =
     let a = c.args in
-    let W = words a.pool.now in
     let h = c.loop-j in
     let kid = c.child_at-child in (
       omega arith,
-      passed_below a.st W a.height a.s a.i h.j h.left kid.result c.in-Left.k (omega arith) (omega arith)
-          kid.ensures h.invariant.1
-          (subst (λ (x : Found). Located a.st W (a.height - 1) kid.result h.left x) c.in-Left.is c.find.ensures),
+      goes_on_below a.st (words a.pool.now) a.height a.s a.i h.j h.left kid.result c.find.result c.in_ok-left.left (omega arith) (omega arith)
+          kid.ensures h.invariant.1 c.find.ensures c.in_ok-left.was,
     )
 
 pub returns : goal.returns

@@ -1,6 +1,6 @@
 -- `nodes_in` meets its contract, the height falling. The loop's invariant: `total` counts the root and the nodes of the first j children. Assumes nothing.
 use mathlib.Core.Path.{◌≡◌, refl}
-use Prim.Native.Nat.{ℕ, ◌+◌, ◌-◌}
+use Prim.Native.Nat.{ℕ, ◌+◌}
 use native.Mathlib.Omega.{arith}
 use lib.ListN.{take, get_or}
 use Rattle.words.specs.Words.{words}

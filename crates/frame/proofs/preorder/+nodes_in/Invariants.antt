@@ -1,6 +1,6 @@
 -- `nodes_in` meets its contract, the height falling. The loop's invariant: `total` counts the root and the nodes of the first j children. Assumes nothing.
 use mathlib.Core.Path.{◌≡◌}
-use Prim.Native.Nat.{◌+◌, ◌-◌, ◌≤◌}
+use Prim.Native.Nat.{◌+◌, ◌≤◌}
 use lib.ListN.{take}
 use Rattle.words.specs.Words.{words}
 use Rattle.slots.specs.Nodes.{nodes, nth}
@@ -13,6 +13,3 @@ decreases-nodes_in l = l.height
 abbrev pub invariant-loop-j : goal.invariant-loop-j
 invariant-loop-j l =
     (l.j ≤ l.n) × (l.total ≡ 1 + passed (nodes l.st (words l.pool)) l.height (take l.j (nth (nodes l.st (words l.pool)) l.s).rows))
-
-abbrev pub decreases-loop-j : goal.decreases-loop-j
-decreases-loop-j l = l.n - l.j

@@ -1,6 +1,6 @@
 -- `number` meets its contract. The loop's invariant: n is the number that k bytes spell, so it is below 256 ^ k. Assumes nothing.
 use mathlib.Core.Path.{◌≡◌, refl, ap, ◌∙◌}
-use Prim.Native.Nat.{ℕ, ◌-◌}
+use Prim.Native.Nat.{ℕ}
 use native.Mathlib.Omega.{arith}
 use Rattle.model.specs.ReadFrame.{field}
 use Rattle.frame_text.specs.Digits.{pairs}
@@ -22,8 +22,8 @@ pub overflow_add-n-in-loop-k : goal.overflow_add-n-in-loop-k
 overflow_add-n-in-loop-k c =
     let h = c.loop-k in
     let low =
-    number_below c.args.line.now c.requires.digits c.args.a h.k h.n c.value_of.result c.value_of-in-loop-k.result (omega arith)
-    c.value_of.ensures.0 c.value_of-in-loop-k.ensures.0 h.invariant.1.1 in
+    number_below c.args.line.now c.requires.digits c.args.a h.k h.n c.digit_at.result c.digit_at-in-loop-k.result (omega arith)
+    c.digit_at.ensures c.digit_at-in-loop-k.ensures h.invariant.1.1 in
     omega (arith, low, eight_bytes h.k (omega arith))
 
 pub loop-k-preserved : goal.loop-k-preserved
@@ -31,10 +31,10 @@ loop-k-preserved c =
     let h = c.loop-k in (
       omega arith,
       (
-        number_more c.args.line.now c.requires.digits c.args.a h.k h.n c.value_of.result c.value_of-in-loop-k.result (omega arith)
-            c.value_of.ensures.0 c.value_of-in-loop-k.ensures.0 h.invariant.1.0,
-        number_below c.args.line.now c.requires.digits c.args.a h.k h.n c.value_of.result c.value_of-in-loop-k.result (omega arith)
-            c.value_of.ensures.0 c.value_of-in-loop-k.ensures.0 h.invariant.1.1,
+        number_more c.args.line.now c.requires.digits c.args.a h.k h.n c.digit_at.result c.digit_at-in-loop-k.result (omega arith)
+            c.digit_at.ensures c.digit_at-in-loop-k.ensures h.invariant.1.0,
+        number_below c.args.line.now c.requires.digits c.args.a h.k h.n c.digit_at.result c.digit_at-in-loop-k.result (omega arith)
+            c.digit_at.ensures c.digit_at-in-loop-k.ensures h.invariant.1.1,
       ),
     )
 

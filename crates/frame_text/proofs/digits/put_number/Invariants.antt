@@ -9,6 +9,3 @@ use Rattle.frame_text.proofs.digits.put_number.Given as goal
 abbrev pub invariant-loop-k : goal.invariant-loop-k
 invariant-loop-k l =
     (l.k ≤ l.w) × ((length l.line ≡ length l.initial.line) × ((l.rest ≡ l.value / 256 ^ (l.w - l.k)) × (l.line ≡ spelled l.initial.line (l.a + l.k) (l.w - l.k) (bytes (l.w - l.k) l.value))))
-
-abbrev pub decreases-loop-k : goal.decreases-loop-k
-decreases-loop-k l = l.k

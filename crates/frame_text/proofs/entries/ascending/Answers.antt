@@ -1,6 +1,5 @@
 -- `ascending` meets its contract. The loop's invariant: the keys rise exactly if they rise from place i - 1 on. Assumes nothing.
 use mathlib.Core.Path.{refl, sym, ap, ◌∙◌}
-use Prim.Native.Nat.{◌-◌}
 use native.Mathlib.Omega.{arith}
 use Rattle.model.specs.Frame.{rising}
 use Rattle.frame_text.specs.Contents.{first}

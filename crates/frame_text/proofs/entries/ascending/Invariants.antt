@@ -9,6 +9,3 @@ use Rattle.frame_text.proofs.entries.ascending.Given as goal
 
 abbrev pub invariant-loop-i : goal.invariant-loop-i
 invariant-loop-i l = (1 ≤ l.i) × (rising (drop (l.i - 1) (map (λ e. e.key) (first l.n l.entries))) ≡ rising (map (λ e. e.key) (first l.n l.entries)))
-
-abbrev pub decreases-loop-i : goal.decreases-loop-i
-decreases-loop-i l = l.n - l.i

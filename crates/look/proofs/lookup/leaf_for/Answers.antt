@@ -13,16 +13,16 @@ pub child_for-i-requires : goal.child_for-i-requires
 child_for-i-requires c =
     let a = c.args in
     let at = c.loop-h in
-    let s = grown_sorted a.st (words a.pool.now) at.h at.s at.invariant.0 in (
+    let s = grown_sorted a.st (words a.pool.now) at._h at.s at.invariant.0 in (
       record { held = s.held; slot = s.slot },
-      grown_some a.st (words a.pool.now) at.h at.s at.invariant.0 (λ e. omega (arith, c.loop-h-test.true)),
+      grown_some a.st (words a.pool.now) at._h at.s at.invariant.0 (λ e. omega (arith, c.loop-h-test.true)),
     )
 
 pub child_at-s-requires : goal.child_at-s-requires
 child_at-s-requires c =
     let a = c.args in
     let at = c.loop-h in
-    let s = grown_sorted a.st (words a.pool.now) at.h at.s at.invariant.0 in
+    let s = grown_sorted a.st (words a.pool.now) at._h at.s at.invariant.0 in
     record { held = s.held; slot = s.slot; within = omega (arith, c.child_for-i.ensures.within) }
 
 pub loop-h-preserved : goal.loop-h-preserved
@@ -30,7 +30,7 @@ loop-h-preserved c =
     let a = c.args in
     let at = c.loop-h in
     let down =
-    descend a.st (words a.pool.now) a.key at.h at.s c.child_for-i.result c.child_at-s.result
+    descend a.st (words a.pool.now) a.key at._h at.s c.child_for-i.result c.child_at-s.result
     c.loop-h-test.true at.invariant.0 c.child_for-i.ensures c.child_at-s.ensures in
     (down.0, down.1 ∙ at.invariant.1)
 
@@ -38,4 +38,4 @@ pub returns : goal.returns
 returns c =
     let a = c.args in
     let at = c.loop-h in
-    arrive a.st (words a.pool.now) a.key a.height at.h at.s c.loop-h-test.false at.invariant.0 at.invariant.1
+    arrive a.st (words a.pool.now) a.key a.height at._h at.s c.loop-h-test.false at.invariant.0 at.invariant.1

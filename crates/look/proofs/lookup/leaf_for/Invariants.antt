@@ -12,7 +12,4 @@ use Rattle.look.proofs.lookup.leaf_for.Given as goal
 abbrev pub invariant-loop-h : goal.invariant-loop-h
 invariant-loop-h l =
     let ns = nodes l.st (words l.pool) in
-    ToDescend l.st (words l.pool) l.h l.s × (held l.key (entries (suc l.h) (tree_at ns l.h l.s)) ≡ held l.key (entries (suc l.height) (tree_at ns l.height l.st.root)))
-
-abbrev pub decreases-loop-h : goal.decreases-loop-h
-decreases-loop-h l = l.h
+    ToDescend l.st (words l.pool) l._h l.s × (held l.key (entries (suc l._h) (tree_at ns l._h l.s)) ≡ held l.key (entries (suc l.height) (tree_at ns l.height l.st.root)))

@@ -3,7 +3,6 @@
 use Prim.Native.Nat.{suc, ◌+◌, ◌-◌, ◌*◌}
 use Rattle.words.specs.Words.{words}
 use Rattle.slots.specs.Nodes.{rows_at}
-use Rattle.survey_node.specs.Parts.{last}
 use Rattle.survey_node.proofs.Walks.{Going}
 use Rattle.survey.proofs.walk.+check_interior_check_node.Given as goal
 
@@ -15,7 +14,4 @@ decreases-check_node l = 2 * l.height + 1
 
 abbrev pub invariant-check_interior-loop-i : goal.invariant-check_interior-loop-i
 invariant-check_interior-loop-i l =
-    Going l.st (words l.pool) (suc (l.height - 1)) (rows_at l.st (words l.pool) l.s) (last l.some l.key) (l.left - 1) l.i l.met l.part
-
-abbrev pub decreases-check_interior-loop-i : goal.decreases-check_interior-loop-i
-decreases-check_interior-loop-i l = l.n - l.i
+    Going l.st (words l.pool) (suc (l.height - 1)) (rows_at l.st (words l.pool) l.s) l.fn.last (l.left - 1) l.i l.part

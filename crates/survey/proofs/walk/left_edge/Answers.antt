@@ -12,9 +12,6 @@ use Rattle.tree.specs.Pool.{height_at}
 use Rattle.survey.proofs.Edges.{edge_end, edge_past, edge_down}
 use Rattle.survey.proofs.walk.left_edge.Goals as goal
 
-pub loop-height-init : goal.loop-height-init
-loop-height-init c = (omega arith, omega arith)
-
 pub returns-then-st-s : goal.returns-then-st-s
 returns-then-st-s c =
     let a = c.args in
@@ -35,12 +32,6 @@ returns-then-raw_kind-ne-INTERIOR c =
           (λ e. c.if-raw_kind-ne-INTERIOR.true (c.raw_kind.ensures ∙ kind_node a.st W at.s ∙ e)),
     )
 
-pub overflow_add-height : goal.overflow_add-height
-overflow_add-height c = omega arith
-
-pub loop-height-smaller : goal.loop-height-smaller
-loop-height-smaller c = omega arith
-
 pub loop-height-preserved : goal.loop-height-preserved
 loop-height-preserved c =
     let a = c.args in
@@ -58,5 +49,5 @@ pub returns : goal.returns
 returns c =
     let a = c.args in
     let at = c.loop-height in
-    let end : 8 - at.height ≡ 0 = omega arith in
-    omega (arith, at.invariant.1, ap (λ (m : ℕ). height_at (nodes a.st (words a.pool.now)) m at.s) end)
+    let end : 8 - at.height ≡ 0 = omega (arith, c.loop-height-test.false) in
+    omega (arith, at.invariant.0, c.loop-height-test.false, at.invariant.1, ap (λ (m : ℕ). height_at (nodes a.st (words a.pool.now)) m at.s) end)

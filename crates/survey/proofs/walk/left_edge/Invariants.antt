@@ -9,6 +9,3 @@ use Rattle.survey.proofs.walk.left_edge.Given as goal
 abbrev pub invariant-loop-height : goal.invariant-loop-height
 invariant-loop-height l =
     (l.height ≤ 8) × (height_at (nodes l.st (words l.pool)) 8 l.st.root ≡ l.height + height_at (nodes l.st (words l.pool)) (8 - l.height) l.s)
-
-abbrev pub decreases-loop-height : goal.decreases-loop-height
-decreases-loop-height l = 8 - l.height
