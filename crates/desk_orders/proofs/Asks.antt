@@ -5,10 +5,12 @@ use mathlib.Core.Path.{◌≡◌, refl, ap, sym, ◌∙◌}
 use mathlib.Core.Bool.{true, false}
 use mathlib.Core.List.{List, [], ◌∷◌, ◌++◌, map}
 use mathlib.Core.Option.{Option, some}
-use lib.ListN.{length, take, drop, replicate, take-append-drop}
+use lib.ListN.{length, take, drop, replicate, length-take, take-append-drop}
 use lib.Seq.{length-take-le}
 use Rattle.slots_raw.proofs.Over.{drop_replicate}
 use borrow.Author.Tests.{le-leb, lt-leb}
+use Rattle.std.proofs.lemmas.Bool.Decides.{Decides-eqb}
+use Rattle.std.proofs.lemmas.Slice.Eq.{slice_eq-Decides}
 use Rattle.std.specs.Prelude as Here
 use Rattle.model.specs.declared.Entry.{Entry}
 use Rattle.desk_orders.specs.declared.Order.TheVariants as Read
@@ -19,18 +21,22 @@ use Rattle.desk_orders.specs.Orders.{asked, wanted, placed, reading, reading_of}
 use Rattle.desk_rows.specs.Rows.{rows_in, fields}
 use Rattle.desk_rows.specs.Numbers.{fields_from, entries_of, Lends, Past, rows_read}
 
+-- a line is as long as the word that it begins with
+pub begins_long : (w l : List ℕ) → begins w l ≡ true → length w ≤ length l
+begins_long w l e = omega (arith, ap length ((slice_eq-Decides Decides-eqb w (take (length w) l) _ refl).0 e), length-take (length w) l)
+
 from_inside : (l : List ℕ) (n : ℕ) → n ≤ length l → fields_from l n ≡ fields (drop n l)
 from_inside l n h = simp (le-leb _ _ h) refl
 
 module _ (l : List ℕ) where
-  pub asks_set : begins set_word l ≡ true → 4 ≤ length l → asked l ≡ setting (rows_in true (fields_from l 4))
+  pub asks_set : begins set_word l ≡ true → asked l ≡ setting (rows_in true (fields_from l 4))
   unfolding asked
-  asks_set e h = rw (e, from_inside l 4 h) refl
+  asks_set e = rw (e, from_inside l 4 (begins_long set_word l e)) refl
 
   module _ (no : begins set_word l ≡ false) where
-    pub asks_drop : begins drop_word l ≡ true → 5 ≤ length l → asked l ≡ dropping (rows_in false (fields_from l 5))
+    pub asks_drop : begins drop_word l ≡ true → asked l ≡ dropping (rows_in false (fields_from l 5))
     unfolding asked
-    asks_drop e h = rw (no, e, from_inside l 5 h) refl
+    asks_drop e = rw (no, e, from_inside l 5 (begins_long drop_word l e)) refl
 
     module _ (nor : begins drop_word l ≡ false) where
       pub asks_dump : is_word dump_word l ≡ true → asked l ≡ dump

@@ -236,9 +236,13 @@ module _ {triples : Bool} {l : List ℕ} {from : ℕ} {ks₀ ps₀ zs₀ ks ps z
         going = rw more (row_more (firsts n ks ps zs) _ (rows_in triples (fields_from l (e + 1)))) ∙ ap (join_rows (firsts n ks ps zs)) (sym q) ∙ r.going;
       }
 
-  pub rows_done : length l < at → rows_read (Here.Some n) ks ps zs ≡ rows_in triples (fields_from l from)
+  pub rows_done : length l < at
+      → (rows_read (Here.Some n) ks ps zs ≡ rows_in triples (fields_from l from)) × (Lends ks ps zs × ((n ≤ 128) × Past n ks₀ ps₀ zs₀ ks ps zs))
   unfolding rows_in
-  rows_done h = ap some (sym (append-nil (firsts n ks ps zs))) ∙ ap (join_rows (firsts n ks ps zs)) (sym over) ∙ r.going
+  rows_done h = (
+    ap some (sym (append-nil (firsts n ks ps zs))) ∙ ap (join_rows (firsts n ks ps zs)) (sym over) ∙ r.going,
+    (r.lends, (omega (arith, r.few, r.short, r.within), r.past)),
+  )
     where
       over : rows_in triples (fields_from l at) ≡ some []
       over = simp (lt-leb _ _ h) refl

@@ -2,15 +2,14 @@
 #![tactic(auto)]
 
 ghost use Rattle.std.specs.Prelude.{◌≡◌};
-ghost use Rattle.index_c_told.specs.Told.{Reports};
-ghost use Rattle.model.specs.Answer.{told};
+ghost use Rattle.index_c_told.specs.Told.{told_by, Reports};
 ghost use Rattle.index_c_fields.specs.Fields.{fields_of, wide_of, narrow_of};
 
 use frame_text::{Contents, FrameEntry, Kind};
-use model::Refusal;
+use index_c_told::Numbered;
 
-pub fn tell_reading(
-    reading: Result<Contents, Refusal>,
+pub fn tell_reading<E: Numbered>(
+    reading: Result<Contents, E>,
     head: &mut [u64; 2],
     keys: &mut [u64; 32],
     wide: &mut [u64; 32],
@@ -18,7 +17,7 @@ pub fn tell_reading(
     live: &mut [u32; 32],
     dead: &mut [u32; 32],
 ) -> u32
-    ensures { Reports fields_of (told reading)
+    ensures { Reports fields_of (told_by E.number reading)
         (record {
           head = head.old;
           keys = keys.old;
@@ -40,7 +39,7 @@ pub fn tell_reading(
             put_contents(contents, head, keys, wide, narrow, live, dead);
             0
         }
-        Err(why) => why.into(),
+        Err(why) => why.number(),
     }
 }
 

@@ -1,2 +1,3 @@
--- `Reported`: a report is one.
+-- `Reported`: a report is one. `Numbering`: by the table's numbers a result is told as the model has it.
 pub mod Reported
+pub mod Numbering

@@ -1,5 +1,5 @@
 -- An answer as C has it: a number, and what was done in small buffers. Assumes nothing.
-use Rattle.std.specs.Prelude.{ℕ, ◌≡◌, Bool, cond, List, [], ◌∷◌, eqb}
+use Rattle.std.specs.Prelude.{ℕ, ◌≡◌, Bool, cond, List, [], ◌∷◌, eqb, Result, Ok, Err}
 use Rattle.model.specs.declared.Totals.{Totals}
 use Rattle.model.specs.declared.Counts.{Counts}
 use Rattle.model.specs.declared.Bound.{Bound}
@@ -8,6 +8,16 @@ use Rattle.model.specs.Answer.{Answer, refused, done}
 use Rattle.look_output.specs.declared.Listed.{Listed}
 use Rattle.look_output.specs.declared.Scanned.{Scanned}
 use Rattle.look_portion.specs.declared.Portion.{Portion}
+
+-- what the code answers, where f numbers its refusals; by the table's numbers it is `told` of the model (proofs/Numbering)
+abbrev pub told_by : {A E : Type 0} → (E → ℕ) → Result A E → Answer A
+told_by f (Ok a) = done a
+told_by f (Err e) = refused (f e)
+
+-- the number that f gives a refusal, and 0 where the call was done; by the table's numbers it is `code` of the model
+abbrev pub code_by : {A E : Type 0} → (E → ℕ) → Result A E → ℕ
+code_by f (Ok a) = 0
+code_by f (Err e) = f e
 
 -- 0 where the call was done, and the table's number where it was refused
 abbrev pub code_of : {A : Type 0} → Answer A → ℕ

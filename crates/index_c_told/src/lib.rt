@@ -2,20 +2,46 @@
 #![tactic(auto)]
 
 ghost use Rattle.std.specs.Prelude.{◌≡◌, ℕ, List};
-ghost use Rattle.model.specs.Answer.{told, code};
-ghost use Rattle.index_c_told.specs.Told.{Reports, total_numbers, count_numbers, listed_numbers, scanned_numbers, portion_numbers, bound_numbers, start_after, buffers_after};
+ghost use Rattle.model.specs.Answer.{number as table_number};
+ghost use Rattle.index_c_told.specs.Told.{told_by, code_by, Reports, total_numbers, count_numbers, listed_numbers, scanned_numbers, portion_numbers, bound_numbers, start_after, buffers_after};
 
 use look_output::{Listed, Scanned};
 use look_portion::Portion;
 use model::{Bound, Counts, Refusal, Totals};
 
+// What a refusal is told as: its number.
+pub trait Numbered: Copy {
+    ghost number: { Self → ℕ };
+
+    fn number(self) -> u32
+        ensures { result ≡ number self };
+}
+
+// The number that the table gives it.
+impl Numbered for Refusal {
+    ghost number = { table_number };
+
+    fn number(self) -> u32 {
+        self.into()
+    }
+}
+
+// A bare number is told as it is, also one that the table lacks.
+impl Numbered for u32 {
+    ghost number = { λ n. n };
+
+    fn number(self) -> u32 {
+        self
+    }
+}
+
 // 0 where the call was done, and the number of its refusal where it was not.
-pub fn code<A: Copy>(answer: Result<A, Refusal>) -> u32
-    ensures { result ≡ code answer }
+pub fn code<A: Copy, E: Numbered>(answer: Result<A, E>) -> u32
+    ensures { result ≡ code_by E.number answer }
 {
     match answer {
         Ok(_) => 0,
-        Err(why) => why.into(),
+        Err(why) => why.number(),
     }
 }
 
@@ -91,24 +117,27 @@ impl Numbers<3> for Bound {
 }
 
 // Of an answer with numbers.
-pub fn tell<const N: usize, T: Numbers<N>>(answer: Result<T, Refusal>, small: &mut [u64; N]) -> u32
-    ensures { Reports T.numbers (told answer) small.old result small.new }
+pub fn tell<const N: usize, T: Numbers<N>, E: Numbered>(
+    answer: Result<T, E>,
+    small: &mut [u64; N],
+) -> u32
+    ensures { Reports T.numbers (told_by E.number answer) small.old result small.new }
 {
     match answer {
         Ok(done) => {
             *small = done.numbers();
             0
         }
-        Err(why) => why.into(),
+        Err(why) => why.number(),
     }
 }
 
-pub fn tell_portion(
-    answer: Result<Portion, Refusal>,
+pub fn tell_portion<E: Numbered>(
+    answer: Result<Portion, E>,
     from: &mut [u64; 3],
     small: &mut [u64; 4],
 ) -> u32
-    ensures { Reports (buffers_after from.old) (told answer) (record { from = from.old; told = small.old }) result
+    ensures { Reports (buffers_after from.old) (told_by E.number answer) (record { from = from.old; told = small.old }) result
         (record { from = from.new; told = small.new }) }
 {
     if let Ok(p) = answer {
@@ -128,8 +157,8 @@ fn tell_start(p: Portion, from: &mut [u64; 3])
     }
 }
 
-pub fn tell_length(answer: Result<usize, Refusal>, len: &mut u64) -> u32
-    ensures { Reports (λ n. n) (told answer) len.old result len.new }
+pub fn tell_length<E: Numbered>(answer: Result<usize, E>, len: &mut u64) -> u32
+    ensures { Reports (λ n. n) (told_by E.number answer) len.old result len.new }
 {
     if let Ok(n) = answer {
         *len = n as u64;

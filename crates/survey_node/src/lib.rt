@@ -24,7 +24,8 @@ pub struct Part {
 }
 
 // Tests the leaf in slot `s`, which has `least` rows or more, where the walk may open `left` nodes. Its keys must all be above `last`, the last one
-// met, if one was met.
+// met, if one was met. It stays a function by itself: within the walk that calls it, its loop would carry what it answers at a fault from turn to turn.
+#[inline(never)]
 pub fn check_leaf(
     pool: &[u8],
     st: Settings,

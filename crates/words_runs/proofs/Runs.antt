@@ -153,11 +153,6 @@ pub zero_stop : (W : List ℕ) (from n k b : ℕ) → k < n → false ≡ all_ze
     → all_zero (take (n - k) (drop (from + k) W)) ≡ false
 zero_stop W from n k b h z = zero_block W from n k (min b (n - k)) (omega arith) ∙ rw (← z)
 
--- and behind the last there is none
-pub zero_end : (W : List ℕ) (from n k : ℕ) → n ≤ k → all_zero (take (n - k) (drop (from + k) W)) ≡ true
-unfolding all_zero
-zero_end W from n k h = let e : n - k ≡ 0 = omega arith in rw e refl
-
 -- ---- `all_zero` of a block: `bits` joins the first k words
 
 -- a join of bits is 0 if and only if both of its parts are

@@ -56,12 +56,13 @@ pub fn all_zero(pool: &[u8], from: usize, n: usize) -> bool
     requires { from + n ≤ length (words pool.now) }
     ensures { result ≡ all_zero (take n (drop from (words pool.now))) }
 {
-    for k in (0..n).step_by(BLOCK) {
-        if !zeros(pool, from + k, BLOCK.min(n - k)) {
+    let blocks = n / BLOCK;
+    for b in 0..blocks {
+        if !zeros(pool, from + BLOCK * b, BLOCK) {
             return false;
         }
     }
-    true
+    zeros(pool, from + BLOCK * blocks, n % BLOCK)
 }
 
 // The same of one block, or of what is left after the last. The bits of the words are joined, and

@@ -10,7 +10,7 @@ returns-then-starts_with c =
     let l = c.args.line.now in
     let w = c.starts_with.ensures in
     let is = c.if-starts_with.true in
-    c.read_set.ensures ∙ ap reading_of (sym (short l (omega arith) ∙ asks_set l (sym w.value ∙ is) (w.bound is)))
+    c.read_set.ensures ∙ ap reading_of (sym (short l (omega arith) ∙ asks_set l (sym w.value ∙ is)))
 
 pub returns-then-starts_with-2 : goal.returns-then-starts_with-2
 returns-then-starts_with-2 c =
@@ -18,7 +18,7 @@ returns-then-starts_with-2 c =
     let w = c.starts_with-2.ensures in
     let is = c.if-starts_with-2.true in
     let no = sym c.starts_with.ensures.value ∙ c.if-starts_with.false in
-    c.read_drop.ensures ∙ ap reading_of (sym (short l (omega arith) ∙ asks_drop l no (sym w.value ∙ is) (w.bound is)))
+    c.read_drop.ensures ∙ ap reading_of (sym (short l (omega arith) ∙ asks_drop l no (sym w.value ∙ is)))
 
 pub returns-then-eq : goal.returns-then-eq
 returns-then-eq c =

@@ -6,4 +6,4 @@ pub loop-at-preserved : goal.loop-at-preserved
 loop-at-preserved c = let g = c.in_ok-row.ensures in rows_more c.loop-at.invariant _ _ _ _ g.0 g.1 g.2
 
 pub returns-clause-read : goal.returns-clause-read
-returns-clause-read c = rows_done c.loop-at.invariant c.loop-at-test.false
+returns-clause-read c = (rows_done c.loop-at.invariant c.loop-at-test.false).0
